@@ -1,0 +1,15 @@
+use std::alloc::AllocError;
+use thiserror::Error;
+
+/// Want of memory: the one refusal that no contract ties to a cause.
+///
+/// A call that answers it leaves everything it was lent as it was, unless its own contract says otherwise.
+#[derive(Error, Clone, Copy, Debug, PartialEq, Eq, Drop)]
+#[error("out of memory")]
+pub struct Memory;
+
+impl From<AllocError> for Memory {
+    fn from(_: AllocError) -> Memory {
+        Memory
+    }
+}
