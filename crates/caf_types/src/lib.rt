@@ -1,16 +1,23 @@
 //! The types that every other crate stands on: lists, texts, and want of memory.
-//!
-//! Model: contracts see a [`Seq`] as the list of its items and a [`Letters`] as the list of its
-//! UTF-8 bytes. Neither shows its allocator or its capacity.
-//!
-//! The contract above which all layers build: a refused call leaves the list as it was, and every
-//! other call is exact.
 #![tactic(auto)]
 
+mod block;
 mod letters;
 mod memory;
+mod name;
+mod notice;
+mod reason;
+mod sec;
 mod seq;
+mod shape;
+mod table;
 
 pub use letters::Letters;
 pub use memory::Memory;
+pub use name::{Name, NameFault};
+pub use notice::{Mid, Notice, Priority};
+pub use reason::Reason;
+pub use sec::Sec;
 pub use seq::Seq;
+pub use shape::{Entry, Field, Shape, TypeId};
+pub use table::{TableFault, TypeTable};

@@ -1,0 +1,91 @@
+-- Looking up in tables: lists joined, blocks, and the walk over blocks.
+use Rattle.std.proofs.Common.{◌≡◌, ℕ, zero, suc, ◌+◌, ◌-◌, ◌<◌, ◌≤◌, eqb, Bool, true, false, List, [], ◌∷◌, ◌++◌, length, drop, take, map, get_or, Option, Some, None, refl, sym, ap, subst, ◌∙◌, arith}
+use Rattle.std.specs.Prelude.{slice_get, bytes_eq, flat_map}
+use Rattle.std.specs.Option.{option_map, option_copied}
+use Rattle.std.specs.Borrow.{Bor}
+use Rattle.std.proofs.lemmas.List.{drop_more}
+use Rattle.std.proofs.lemmas.Bool.{ne_eqb, eq-eqb}
+use Rattle.std.proofs.lemmas.Option.{slice_get-map, slice_get_read}
+use Rattle.caf_types.specs.Table.{Named, type_at, id_of, numbered, or_else, first_name, has_name, is_named_in}
+use Rattle.caf_types.specs.TypeTable.{entry_view, entry_views, span_types, block_types, blocks_types}
+use Rattle.caf_types.specs.declared.block.Block.{Block}
+use Rattle.caf_types.specs.declared.block.Span.{Span}
+use Rattle.caf_types.specs.declared.shape.Entry.{Entry}
+
+-- ---- two lists of types
+
+type_at-cons : (t : ℕ × Named) (ts us : List (ℕ × Named)) (id : ℕ) (b : Bool) → eqb t.0 id ≡ b → type_at (ts ++ us) id ≡ or_else (type_at ts id) (type_at us id) → type_at ((t ∷ ts) ++ us) id ≡ or_else (type_at (t ∷ ts) id) (type_at us id)
+type_at-cons t ts us id true e h = rw e refl
+type_at-cons t ts us id false e h = rw e h
+
+pub type_at-append : (ts us : List (ℕ × Named)) (id : ℕ) → type_at (ts ++ us) id ≡ or_else (type_at ts id) (type_at us id)
+type_at-append [] us id = refl
+type_at-append (t ∷ ts) us id = type_at-cons t ts us id (eqb t.0 id) refl (type_at-append ts us id)
+
+id_of-cons : (t : ℕ × Named) (ts us : List (ℕ × Named)) (name : List ℕ) (b : Bool) → bytes_eq t.1.name name ≡ b → id_of (ts ++ us) name ≡ or_else (id_of ts name) (id_of us name) → id_of ((t ∷ ts) ++ us) name ≡ or_else (id_of (t ∷ ts) name) (id_of us name)
+id_of-cons t ts us name true e h = rw e refl
+id_of-cons t ts us name false e h = rw e h
+
+pub id_of-append : (ts us : List (ℕ × Named)) (name : List ℕ) → id_of (ts ++ us) name ≡ or_else (id_of ts name) (id_of us name)
+id_of-append [] us name = refl
+id_of-append (t ∷ ts) us name = id_of-cons t ts us name (bytes_eq t.1.name name) refl (id_of-append ts us name)
+
+-- ---- a block
+
+pub type_at_below : (first : ℕ) (ns : List Named) (id : ℕ) → id < first → type_at (numbered first ns) id ≡ None
+type_at_below first [] id h = refl
+type_at_below first (n ∷ ns) id h =
+    let other : eqb first id ≡ false = ne_eqb first id (λ e. absurd (omega (arith, e))) in
+    rw other (type_at_below (first + 1) ns id (omega arith))
+
+pub type_at_block : (k first id : ℕ) (ns : List Named) → first + k ≡ id → type_at (numbered first ns) id ≡ slice_get ns k
+type_at_block k first id [] e = refl
+type_at_block zero first id (n ∷ ns) e =
+    let here : eqb first id ≡ true = eq-eqb first id (omega (arith, e)) in
+    rw here refl
+type_at_block (suc k) first id (n ∷ ns) e =
+    let other : eqb first id ≡ false = ne_eqb first id (λ same. absurd (omega (arith, e, same))) in
+    rw other (type_at_block k (first + 1) id ns (omega (arith, e)))
+
+-- a look-up by reference, as the entry that it shows
+pub option_map_copied : {X Y : Type 0} (f : X → Y) (r : Option (Bor X)) → option_map (λ (x : Bor X). f x.now) r ≡ option_map f (option_copied r)
+option_map_copied f None = refl
+option_map_copied f (Some x) = refl
+
+pub entry_shown : (s : Span) (id : ℕ) (r : Option (Bor Entry)) → s.first ≤ id → option_copied r ≡ slice_get s.entries (id - s.first)
+    → option_map (λ (e : Bor Entry). entry_view e.now) r ≡ type_at (span_types s) id
+entry_shown s id r le e =
+    option_map_copied entry_view r ∙ ap (λ (o : Option Entry). option_map entry_view o) e
+      ∙ sym (slice_get-map entry_view s.entries (id - s.first))
+      ∙ sym (type_at_block (id - s.first) s.first id (entry_views s.entries) (omega arith))
+
+-- ---- the walk over blocks
+
+at_block : (bs : List Block) (i : ℕ) (b : Block) → i < length bs → b ≡ get_or bs i b → drop i bs ≡ b ∷ drop (i + 1) bs
+at_block bs i b lt is = drop_more bs i b lt ∙ ap (λ (c : Block). c ∷ drop (i + 1) bs) (sym is)
+
+pub type_step : (bs : List Block) (i : ℕ) (b : Block) (id : ℕ) → i < length bs → b ≡ get_or bs i b
+    → type_at (blocks_types (drop i bs)) id ≡ or_else (type_at (span_types b.span) id) (type_at (blocks_types (drop (i + 1) bs)) id)
+type_step bs i b id lt is =
+    ap (λ (cs : List Block). type_at (blocks_types cs) id) (at_block bs i b lt is) ∙ type_at-append (span_types b.span) (blocks_types (drop (i + 1) bs)) id
+
+pub id_step : (bs : List Block) (i : ℕ) (b : Block) (name : List ℕ) → i < length bs → b ≡ get_or bs i b
+    → id_of (blocks_types (drop i bs)) name ≡ or_else (id_of (span_types b.span) name) (id_of (blocks_types (drop (i + 1) bs)) name)
+id_step bs i b name lt is =
+    ap (λ (cs : List Block). id_of (blocks_types cs) name) (at_block bs i b lt is) ∙ id_of-append (span_types b.span) (blocks_types (drop (i + 1) bs)) name
+
+-- ---- the first name that clashes
+
+at_entry : (ts : List (ℕ × Named)) (front : List Named) (es : List Entry) (i : ℕ) (e : Entry) → i < length es → e ≡ get_or es i e → first_name ts front (entry_views (drop i es)) ≡ first_name ts front (entry_view e ∷ entry_views (drop (i + 1) es))
+at_entry ts front es i e lt is = ap (λ xs. first_name ts front (entry_views xs)) (drop_more es i e lt ∙ ap (λ x. x ∷ drop (i + 1) es) (sym is))
+
+pub known : (ts : List (ℕ × Named)) (front : List Named) (es : List Entry) (i : ℕ) (e : Entry) (total : Option (List ℕ)) → i < length es → e ≡ get_or es i e
+    → first_name ts front (entry_views (drop i es)) ≡ total → has_name ts e.name ≡ true → total ≡ Some e.name
+known ts front es i e total lt is so_far h = sym so_far ∙ at_entry ts front es i e lt is ∙ rw h refl
+
+pub twice : (ts : List (ℕ × Named)) (front : List Named) (es : List Entry) (i : ℕ) (e : Entry) (total : Option (List ℕ)) → i < length es → e ≡ get_or es i e
+    → first_name ts front (entry_views (drop i es)) ≡ total → has_name ts e.name ≡ false → is_named_in front e.name ≡ true → total ≡ Some e.name
+twice ts front es i e total lt is so_far h k = sym so_far ∙ at_entry ts front es i e lt is ∙ rw (h, k) refl
+
+pub at_get : (es : List Entry) (i : ℕ) (e : Entry) → i < length es → e ≡ get_or es i e → slice_get es i ≡ Some e
+at_get es i e lt is = slice_get_read es (length es) i e refl lt is
