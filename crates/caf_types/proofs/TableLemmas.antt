@@ -7,7 +7,8 @@ use Rattle.std.proofs.lemmas.List.{drop_more}
 use Rattle.std.proofs.lemmas.Bool.{ne_eqb, eq-eqb}
 use Rattle.std.proofs.lemmas.Option.{slice_get-map, slice_get_read}
 use Rattle.caf_types.specs.Table.{Named, type_at, id_of, numbered, or_else, first_name, has_name, is_named_in}
-use Rattle.caf_types.specs.TypeTable.{entry_view, entry_views, span_types, block_types, blocks_types}
+use Rattle.caf_types.specs.Shape.{entry_view, entry_views}
+use Rattle.caf_types.specs.TypeTable.{span_types, block_types, blocks_types}
 use Rattle.caf_types.specs.declared.block.Block.{Block}
 use Rattle.caf_types.specs.declared.block.Span.{Span}
 use Rattle.caf_types.specs.declared.shape.Entry.{Entry}

@@ -6,6 +6,8 @@ use Rattle.caf_types.specs.declared.shape.Shape.TheOpen as open_shape
 use Rattle.caf_types.specs.declared.shape.Shape.TheOpen.{Shape-F, Field-F}
 use Rattle.caf_types.specs.declared.shape.Shape.TheFolds.{fold-Shape, fold-Field}
 use Rattle.caf_types.specs.declared.shape.Field.{Field}
+use Rattle.caf_types.specs.declared.shape.Entry.{Entry}
+use Rattle.caf_types.specs.Table.{Named, named}
 
 abbrev pub parts_of : List (List ℕ × Form) → Parts
 parts_of [] = no_parts
@@ -35,3 +37,10 @@ field_view = fold-Field Form (List ℕ × Form) form_step field_step
 
 abbrev pub parts : List Field → Parts
 parts fs = parts_of (map field_view fs)
+
+-- entries: their names and the trees of their shapes
+abbrev pub entry_view : Entry → Named
+entry_view e = named e.name (form e.shape)
+
+abbrev pub entry_views : List Entry → List Named
+entry_views es = map entry_view es

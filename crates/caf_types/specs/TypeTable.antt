@@ -1,19 +1,12 @@
 -- The program's table as a plain one, and its answer to a new block.
 use Rattle.std.specs.Prelude.{◌≡◌, ℕ, List, ◌++◌, map, flat_map, Option, Some, None, Result, Ok, Err, ⊤}
-use Rattle.caf_types.specs.Shape.{form}
+use Rattle.caf_types.specs.Shape.{entry_views}
 use Rattle.caf_types.specs.Table.{Named, Table, numbered, Refusal, out_of_range, taken_id, taken_name, too_deep}
-use Rattle.caf_types.specs.declared.shape.Entry.{Entry}
 use Rattle.caf_types.specs.declared.block.Span.{Span}
 use Rattle.caf_types.specs.declared.block.Block.{Block}
 use Rattle.caf_types.specs.declared.table.TypeTable.{TypeTable}
 use Rattle.caf_types.specs.declared.table.TableFault.{TableFault}
 use Rattle.caf_types.specs.declared.table.TableFault.TheVariants as faults
-
-abbrev pub entry_view : Entry → Named
-entry_view e = record { name = e.name; shape = form e.shape }
-
-abbrev pub entry_views : List Entry → List Named
-entry_views es = map entry_view es
 
 abbrev pub span_types : Span → List (ℕ × Named)
 span_types s = numbered s.first (entry_views s.entries)

@@ -1,8 +1,10 @@
-ghost use Rattle.std.specs.Prelude.{◌≡◌, nat_lt, IfOk};
-ghost use Rattle.caf_types.specs.Form.{list, depth, parts_depth};
-ghost use Rattle.caf_types.specs.Shape.{form, parts};
+ghost use Rattle.std.specs.Prelude.{◌≡◌, ◌++◌, ◌∷◌, [], map, nat_lt, IsTrue, IfOk, OnOk};
+ghost use Rattle.caf_types.specs.Form.{list, object, depth, parts_depth};
+ghost use Rattle.caf_types.specs.Name.{is_name};
+ghost use Rattle.caf_types.specs.Shape.{form, field_view, parts, entry_views};
+ghost use Rattle.caf_types.specs.Table.{named};
 
-use crate::{Memory, Name};
+use crate::{Memory, Name, Seq};
 use sqlite_items::{Boxed, Items};
 use std::alloc::Global;
 
@@ -52,6 +54,33 @@ impl Shape {
     {
         Ok(Shape::List(Boxed::new(alloc, item)?))
     }
+
+    /// The shape of objects with these fields.
+    pub fn object_of(fields: Items<Field>) -> Shape
+        ensures { form result ≡ object (parts fields) }
+    {
+        Shape::Object(fields)
+    }
+}
+
+/// Adds a field at the end, of whose name it is known that it is one.
+pub fn declare_field(alloc: Global, fields: &mut Items<Field>, name: &str, shape: Shape) -> Result<(), Memory>
+    requires { IsTrue (is_name name.now) }
+    ensures { OnOk result (map field_view fields.new ≡ map field_view fields.old ++ (name.now, form shape) ∷ []) }
+{
+    let name = Name::of(alloc, name)?;
+    fields.push(Field { name, shape })?;
+    Ok(())
+}
+
+/// Adds an entry at the end, of whose name it is known that it is one.
+pub fn declare_type(alloc: Global, entries: &mut Seq<Entry>, name: &str, shape: Shape) -> Result<(), Memory>
+    requires { IsTrue (is_name name.now) }
+    ensures { OnOk result (entry_views entries.new ≡ entry_views entries.old ++ named name.now (form shape) ∷ []) }
+{
+    let name = Name::of(alloc, name)?;
+    entries.push(Entry { name, shape })?;
+    Ok(())
 }
 
 /// Whether a shape nests deeper than `limit`. A shape without parts nests 1.

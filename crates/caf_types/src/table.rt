@@ -1,14 +1,14 @@
-ghost use Rattle.std.specs.Prelude.{◌≡◌, ◌+◌, ◌≤◌, ◌<◌, ◌^◌, [], length, nat_lt, Some, None, Option, slice_get, MatchOption, IfOk, OnOk, OnErr};
+ghost use Rattle.std.specs.Prelude.{◌≡◌, ◌+◌, ◌≤◌, ◌<◌, ◌^◌, [], length, nat_lt, Some, None, Option, slice_get, MatchOption, MatchResult, IfOk, OnOk, OnErr};
 ghost use Rattle.std.specs.Option.{option_map};
 ghost use Rattle.caf_types.specs.Table as tables;
-ghost use Rattle.caf_types.specs.Table.{type_at, id_of, shape_at, name_at, with_block, built_in, has_name, name_is_in, first_taken, is_named_in, first_name, first_deep, refusal};
-ghost use Rattle.caf_types.specs.Shape.{form};
-ghost use Rattle.caf_types.specs.TypeTable.{entry_view, entry_views, span_types, blocks_types, block_names, seen, TableAnswer};
+ghost use Rattle.caf_types.specs.Table.{type_at, id_of, shape_at, name_at, with_block, built_in, built_in_types, has_name, name_is_in, first_taken, is_named_in, first_name, first_deep, refusal};
+ghost use Rattle.caf_types.specs.Shape.{form, entry_view, entry_views};
+ghost use Rattle.caf_types.specs.TypeTable.{span_types, blocks_types, block_names, seen, TableAnswer};
 ghost use Rattle.caf_types.specs.declared.shape.Entry.{Entry};
 ghost use Rattle.caf_types.specs.declared.table.TableFault.TheVariants as faults;
 
 use crate::block::{Block, Span};
-use crate::shape::nests_past;
+use crate::shape::{declare_type, nests_past};
 use crate::{Entry, Memory, Name, Seq, Shape, TypeId};
 use std::alloc::Global;
 use thiserror::Error;
@@ -48,6 +48,16 @@ pub struct TypeTable {
 }
 
 impl TypeTable {
+    /// The table of the built-in types alone, IDs 0 to 9.
+    pub fn new(alloc: Global) -> Result<TypeTable, Memory>
+        ensures { IfOk result (λ table. seen table ≡ built_in) }
+    {
+        let entries = built_in_entries(alloc)?;
+        let built_in = Span { first: 0, entries };
+        let blocks = Seq::new(alloc);
+        Ok(TypeTable { built_in, blocks })
+    }
+
     /// Adds `entries` under the IDs from `first` on. Its refusals are tried in the order `Range`,
     /// `Taken`, `Name`, `Deep`; `Memory` may come in place of any answer. After a refusal the table
     /// is as before.
@@ -65,10 +75,10 @@ impl TypeTable {
         if has_block(self.blocks.as_slice(), block.as_str()) {
             return Err(TableFault::Name(block));
         }
-        if let Some(i) = self.first_clash(entries.as_slice()) {
-            let mut entries = entries.into_vec();
-            return Err(TableFault::Name(entries.remove(i).name));
-        }
+        let entries = match self.with_new_names(entries) {
+            Ok(entries) => entries,
+            Err(name) => return Err(TableFault::Name(name)),
+        };
         if let Some(id) = first_deep_entry(first, entries.as_slice()) {
             return Err(TableFault::Deep(TypeId(id)));
         }
@@ -156,6 +166,20 @@ impl TypeTable {
         None
     }
 
+    /// The entries, where each name is new; else the first name that isn't.
+    fn with_new_names(&self, entries: Seq<Entry>) -> Result<Seq<Entry>, Name>
+        ensures { MatchResult result (λ es. (es ≡ entries) × (first_name (seen self.now).types [] (entry_views entries) ≡ None))
+            (λ name. first_name (seen self.now).types [] (entry_views entries) ≡ Some name) }
+    {
+        match self.first_clash(entries.as_slice()) {
+            None => Ok(entries),
+            Some(i) => {
+                let mut entries = entries.into_vec();
+                Err(entries.remove(i).name)
+            }
+        }
+    }
+
     /// The position of the first entry whose name is a type's already, or an earlier entry's.
     fn first_clash(&self, entries: &[Entry]) -> Option<usize>
         ensures { MatchOption result (first_name (seen self.now).types [] (entry_views entries.now) ≡ None)
@@ -172,6 +196,26 @@ impl TypeTable {
         }
         None
     }
+}
+
+fn built_in_entries(alloc: Global) -> Result<Seq<Entry>, Memory>
+    ensures { IfOk result (λ entries. entry_views entries ≡ built_in_types) }
+{
+    let mut entries = Seq::new(alloc);
+    declare_type(alloc, &mut entries, "unit", Shape::Unit)?;
+    declare_type(alloc, &mut entries, "flag", Shape::Flag)?;
+    declare_type(alloc, &mut entries, "unsigned", Shape::Unsigned)?;
+    declare_type(alloc, &mut entries, "signed", Shape::Signed)?;
+    declare_type(alloc, &mut entries, "text", Shape::Text)?;
+    declare_type(alloc, &mut entries, "bytes", Shape::Bytes)?;
+    declare_type(alloc, &mut entries, "place", Shape::Place)?;
+    let unsigneds = Shape::list_of(alloc, Shape::Unsigned)?;
+    declare_type(alloc, &mut entries, "unsigneds", unsigneds)?;
+    let texts = Shape::list_of(alloc, Shape::Text)?;
+    declare_type(alloc, &mut entries, "texts", texts)?;
+    let places = Shape::list_of(alloc, Shape::Place)?;
+    declare_type(alloc, &mut entries, "places", places)?;
+    Ok(entries)
 }
 
 fn entry_in(span: &Span, id: u16) -> Option<&Entry>

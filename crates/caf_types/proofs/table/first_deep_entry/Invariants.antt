@@ -1,6 +1,6 @@
 use Rattle.std.proofs.Common.{◌≡◌, ◌+◌, drop, take, []}
 use Rattle.caf_types.specs.Table.{first_deep}
-use Rattle.caf_types.specs.TypeTable.{entry_views}
+use Rattle.caf_types.specs.Shape.{entry_views}
 use Rattle.caf_types.proofs.table.first_deep_entry.Given as goal
 
 abbrev pub invariant-loop-i : goal.invariant-loop-i

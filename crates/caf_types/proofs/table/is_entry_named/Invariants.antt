@@ -1,6 +1,6 @@
 use Rattle.std.proofs.Common.{◌≡◌, ◌+◌, drop, take, []}
 use Rattle.caf_types.specs.Table.{is_named_in}
-use Rattle.caf_types.specs.TypeTable.{entry_views}
+use Rattle.caf_types.specs.Shape.{entry_views}
 use Rattle.caf_types.proofs.table.is_entry_named.Given as goal
 
 abbrev pub invariant-loop-entry : goal.invariant-loop-entry

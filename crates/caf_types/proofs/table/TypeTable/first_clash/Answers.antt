@@ -1,7 +1,8 @@
 use Rattle.std.proofs.Common.{◌≡◌, take, ◌∙◌, sym, ap, subst, true, false}
 use Rattle.caf_types.specs.declared.shape.Entry.{Entry}
 use Rattle.caf_types.specs.Table.{has_name, is_named_in}
-use Rattle.caf_types.specs.TypeTable.{entry_views, seen}
+use Rattle.caf_types.specs.Shape.{entry_views}
+use Rattle.caf_types.specs.TypeTable.{seen}
 use Rattle.caf_types.proofs.TableLemmas.{known, twice, at_get}
 use Rattle.caf_types.proofs.table.TypeTable.first_clash.Goals as goal
 

@@ -1,6 +1,7 @@
 use Rattle.std.proofs.Common.{◌≡◌, ◌+◌, drop, take, []}
 use Rattle.caf_types.specs.Table.{first_taken}
-use Rattle.caf_types.specs.TypeTable.{entry_views, seen}
+use Rattle.caf_types.specs.Shape.{entry_views}
+use Rattle.caf_types.specs.TypeTable.{seen}
 use Rattle.caf_types.proofs.table.TypeTable.first_taken.Given as goal
 
 abbrev pub invariant-loop-i : goal.invariant-loop-i
