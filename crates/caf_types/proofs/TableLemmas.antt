@@ -1,12 +1,13 @@
 -- Looking up in tables: lists joined, blocks, and the walk over blocks.
-use Rattle.std.proofs.Common.{◌≡◌, ℕ, zero, suc, ◌+◌, ◌-◌, ◌<◌, ◌≤◌, eqb, Bool, true, false, List, [], ◌∷◌, ◌++◌, length, drop, take, map, get_or, Option, Some, None, refl, sym, ap, subst, ◌∙◌, arith}
+use Rattle.std.proofs.Common.{◌≡◌, ℕ, zero, suc, ◌+◌, ◌-◌, ◌<◌, ◌≤◌, eqb, ltb, cond, add-one, Bool, true, false, List, [], ◌∷◌, ◌++◌, length, drop, take, map, get_or, Option, Some, None, refl, sym, ap, subst, ◌∙◌, arith}
 use Rattle.std.specs.Prelude.{slice_get, bytes_eq, flat_map}
+use Rattle.std.specs.List.{position_from}
 use Rattle.std.specs.Option.{option_map, option_copied}
 use Rattle.std.specs.Borrow.{Bor}
 use Rattle.std.proofs.lemmas.List.{drop_more}
-use Rattle.std.proofs.lemmas.Bool.{ne_eqb, eq-eqb}
+use Rattle.std.proofs.lemmas.Bool.{ne_eqb, eq-eqb, ltb-true, ltb-false}
 use Rattle.std.proofs.lemmas.Option.{slice_get-map, slice_get_read}
-use Rattle.caf_types.specs.Table.{Named, type_at, id_of, numbered, or_else, first_name, has_name, is_named_in}
+use Rattle.caf_types.specs.Table.{Named, type_at, id_of, numbered, type_in, find_in, or_else, first_name, has_name, is_named_in}
 use Rattle.caf_types.specs.Shape.{entry_view, entry_views}
 use Rattle.caf_types.specs.TypeTable.{span_types, block_types, blocks_types}
 use Rattle.caf_types.specs.declared.block.Block.{Block}
@@ -90,3 +91,33 @@ twice ts front es i e total lt is so_far h k = sym so_far ∙ at_entry ts front 
 
 pub at_get : (es : List Entry) (i : ℕ) (e : Entry) → i < length es → e ≡ get_or es i e → slice_get es i ≡ Some e
 at_get es i e lt is = slice_get_read es (length es) i e refl lt is
+
+-- ---- what a block adds
+
+pub type_at_in : (first id : ℕ) (ns : List Named) (b : Bool) → ltb id first ≡ b → type_at (numbered first ns) id ≡ cond b None (slice_get ns (id - first))
+type_at_in first id ns true e = type_at_below first ns id (ltb-true id first e)
+type_at_in first id ns false e =
+    let le : first ≤ id = ltb-false id first e in
+    type_at_block (id - first) first id ns (omega arith)
+
+pub type_joins : (ts : List (ℕ × Named)) (first id : ℕ) (ns : List Named) → type_at (ts ++ numbered first ns) id ≡ or_else (type_at ts id) (type_in first ns id)
+type_joins ts first id ns =
+    type_at-append ts (numbered first ns) id ∙ ap (λ (o : Option Named). or_else (type_at ts id) o) (type_at_in first id ns (ltb id first) refl)
+
+pub map_or_else : {X Y : Type 0} (f : X → Y) (a b : Option X) → option_map f (or_else a b) ≡ or_else (option_map f a) (option_map f b)
+map_or_else f (Some x) b = refl
+map_or_else f None b = refl
+
+id_at : (first : ℕ) (n : Named) (ns : List Named) (name : List ℕ) (b : Bool) → bytes_eq n.name name ≡ b
+    → id_of (numbered (suc first) ns) name ≡ position_from (λ (m : Named). bytes_eq m.name name) (suc first) ns
+    → id_of (numbered first (n ∷ ns)) name ≡ position_from (λ (m : Named). bytes_eq m.name name) first (n ∷ ns)
+id_at first n ns name true e h = rw e refl
+id_at first n ns name false e h = rw (e, add-one) h
+
+pub id_of_block : (first : ℕ) (ns : List Named) (name : List ℕ) → id_of (numbered first ns) name ≡ position_from (λ (m : Named). bytes_eq m.name name) first ns
+id_of_block first [] name = refl
+id_of_block first (n ∷ ns) name = id_at first n ns name (bytes_eq n.name name) refl (id_of_block (suc first) ns name)
+
+pub id_joins : (ts : List (ℕ × Named)) (first : ℕ) (ns : List Named) (name : List ℕ) → id_of (ts ++ numbered first ns) name ≡ or_else (id_of ts name) (find_in first ns name)
+id_joins ts first ns name =
+    id_of-append ts (numbered first ns) name ∙ ap (λ (o : Option ℕ). or_else (id_of ts name) o) (id_of_block first ns name)

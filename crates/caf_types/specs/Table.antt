@@ -1,5 +1,6 @@
 -- Type tables: finite maps from IDs to named shapes, and when a block is refused.
-use Rattle.std.specs.Prelude.{ℕ, ◌+◌, ◌==◌, ◌||◌, nat_lt, bytes_eq, if◌then◌else◌, Bool, true, false, List, [], ◌∷◌, ◌++◌, length, Option, Some, None, is_some, codes}
+use Rattle.std.specs.Prelude.{ℕ, ◌+◌, ◌-◌, ◌==◌, ◌||◌, nat_lt, bytes_eq, if◌then◌else◌, Bool, true, false, List, [], ◌∷◌, ◌++◌, length, Option, Some, None, is_some, codes, slice_get}
+use Rattle.std.specs.List.{position_from}
 use Rattle.std.specs.Option.{option_map}
 use Rattle.caf_types.specs.Form.{Form, unit, flag, unsigned, signed, text, bytes, place, list, depth}
 
@@ -12,6 +13,11 @@ pub record Named : Type 0 where
 pub record Table : Type 0 where
   pub types : List (ℕ × Named)
   pub blocks : List (List ℕ)
+
+-- the first of two that is there
+abbrev pub or_else : {A : Type 0} → Option A → Option A → Option A
+or_else (Some x) y = Some x
+or_else None y = y
 
 -- ---- looking up
 
@@ -41,6 +47,20 @@ numbered first (n ∷ ns) = (first, n) ∷ numbered (first + 1) ns
 
 abbrev pub with_block : Table → List ℕ → ℕ → List Named → Table
 with_block t block first ns = record { types = t.types ++ numbered first ns; blocks = t.blocks ++ block ∷ [] }
+
+-- the type that has an ID in a block
+abbrev pub type_in : ℕ → List Named → ℕ → Option Named
+type_in first ns id = if nat_lt id first then None else slice_get ns (id - first)
+
+abbrev pub shape_in : ℕ → List Named → ℕ → Option Form
+shape_in first ns id = option_map (λ (n : Named). n.shape) (type_in first ns id)
+
+abbrev pub name_in : ℕ → List Named → ℕ → Option (List ℕ)
+name_in first ns id = option_map (λ (n : Named). n.name) (type_in first ns id)
+
+-- the ID that a name has in a block
+abbrev pub find_in : ℕ → List Named → List ℕ → Option ℕ
+find_in first ns name = position_from (λ (n : Named). bytes_eq n.name name) first ns
 
 -- ---- the types that every table has
 
@@ -99,10 +119,6 @@ first_name ts front (n ∷ ns) =
 abbrev pub first_deep : ℕ → List Named → Option ℕ
 first_deep id [] = None
 first_deep id (n ∷ ns) = if nat_lt 16 (depth n.shape) then Some id else first_deep (id + 1) ns
-
-abbrev pub or_else : {A : Type 0} → Option A → Option A → Option A
-or_else (Some x) y = Some x
-or_else None y = y
 
 abbrev pub if_some : {A : Type 0} → (A → Refusal) → Option A → Option Refusal
 if_some f None = None

@@ -2,6 +2,8 @@
 #![tactic(auto)]
 
 mod block;
+mod declare;
+mod law;
 mod letters;
 mod memory;
 mod name;
@@ -12,6 +14,8 @@ mod seq;
 mod shape;
 mod table;
 
+pub use declare::{declare_field, declare_type};
+pub use law::block_joins;
 pub use letters::Letters;
 pub use memory::Memory;
 pub use name::{Name, NameFault};
@@ -20,4 +24,5 @@ pub use reason::Reason;
 pub use sec::Sec;
 pub use seq::Seq;
 pub use shape::{Entry, Field, Shape, TypeId};
+pub use sqlite_items::{Boxed, Items};
 pub use table::{TableFault, TypeTable};

@@ -1,10 +1,8 @@
-ghost use Rattle.std.specs.Prelude.{◌≡◌, ◌++◌, ◌∷◌, [], map, nat_lt, IsTrue, IfOk, OnOk};
+ghost use Rattle.std.specs.Prelude.{◌≡◌, nat_lt, IfOk};
 ghost use Rattle.caf_types.specs.Form.{list, object, depth, parts_depth};
-ghost use Rattle.caf_types.specs.Name.{is_name};
-ghost use Rattle.caf_types.specs.Shape.{form, field_view, parts, entry_views};
-ghost use Rattle.caf_types.specs.Table.{named};
+ghost use Rattle.caf_types.specs.Shape.{form, parts};
 
-use crate::{Memory, Name, Seq};
+use crate::{Memory, Name};
 use sqlite_items::{Boxed, Items};
 use std::alloc::Global;
 
@@ -61,26 +59,6 @@ impl Shape {
     {
         Shape::Object(fields)
     }
-}
-
-/// Adds a field at the end, of whose name it is known that it is one.
-pub fn declare_field(alloc: Global, fields: &mut Items<Field>, name: &str, shape: Shape) -> Result<(), Memory>
-    requires { IsTrue (is_name name.now) }
-    ensures { OnOk result (map field_view fields.new ≡ map field_view fields.old ++ (name.now, form shape) ∷ []) }
-{
-    let name = Name::of(alloc, name)?;
-    fields.push(Field { name, shape })?;
-    Ok(())
-}
-
-/// Adds an entry at the end, of whose name it is known that it is one.
-pub fn declare_type(alloc: Global, entries: &mut Seq<Entry>, name: &str, shape: Shape) -> Result<(), Memory>
-    requires { IsTrue (is_name name.now) }
-    ensures { OnOk result (entry_views entries.new ≡ entry_views entries.old ++ named name.now (form shape) ∷ []) }
-{
-    let name = Name::of(alloc, name)?;
-    entries.push(Entry { name, shape })?;
-    Ok(())
 }
 
 /// Whether a shape nests deeper than `limit`. A shape without parts nests 1.

@@ -8,8 +8,8 @@ ghost use Rattle.caf_types.specs.declared.shape.Entry.{Entry};
 ghost use Rattle.caf_types.specs.declared.table.TableFault.TheVariants as faults;
 
 use crate::block::{Block, Span};
-use crate::shape::{declare_type, nests_past};
-use crate::{Entry, Memory, Name, Seq, Shape, TypeId};
+use crate::shape::nests_past;
+use crate::{Entry, Memory, Name, Seq, Shape, TypeId, declare_type};
 use std::alloc::Global;
 use thiserror::Error;
 
