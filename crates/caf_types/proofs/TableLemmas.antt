@@ -1,6 +1,6 @@
 -- Looking up in tables: lists joined, blocks, and the walk over blocks.
-use Rattle.std.proofs.Common.{◌≡◌, ℕ, zero, suc, ◌+◌, ◌-◌, ◌<◌, ◌≤◌, eqb, ltb, cond, add-one, Bool, true, false, List, [], ◌∷◌, ◌++◌, length, drop, take, map, get_or, Option, Some, None, refl, sym, ap, subst, ◌∙◌, arith}
-use Rattle.std.specs.Prelude.{slice_get, bytes_eq, flat_map}
+use Rattle.std.proofs.Common.{◌≡◌, ℕ, zero, suc, ◌+◌, ◌-◌, ◌<◌, ◌≤◌, eqb, ltb, cond, add-one, Bool, true, false, List, [], ◌∷◌, ◌++◌, length, drop, get_or, Option, Some, None, refl, sym, ap, ◌∙◌, arith}
+use Rattle.std.specs.Prelude.{slice_get, bytes_eq}
 use Rattle.std.specs.List.{position_from}
 use Rattle.std.specs.Option.{option_map, option_copied}
 use Rattle.std.specs.Borrow.{Bor}
@@ -9,7 +9,7 @@ use Rattle.std.proofs.lemmas.Bool.{ne_eqb, eq-eqb, ltb-true, ltb-false}
 use Rattle.std.proofs.lemmas.Option.{slice_get-map, slice_get_read}
 use Rattle.caf_types.specs.Table.{Named, type_at, id_of, numbered, type_in, find_in, or_else, first_name, has_name, is_named_in}
 use Rattle.caf_types.specs.Shape.{entry_view, entry_views}
-use Rattle.caf_types.specs.TypeTable.{span_types, block_types, blocks_types}
+use Rattle.caf_types.specs.TypeTable.{span_types, blocks_types}
 use Rattle.caf_types.specs.declared.block.Block.{Block}
 use Rattle.caf_types.specs.declared.block.Span.{Span}
 use Rattle.caf_types.specs.declared.shape.Entry.{Entry}
@@ -58,8 +58,8 @@ pub entry_shown : (s : Span) (id : ℕ) (r : Option (Bor Entry)) → s.first ≤
     → option_map (λ (e : Bor Entry). entry_view e.now) r ≡ type_at (span_types s) id
 entry_shown s id r le e =
     option_map_copied entry_view r ∙ ap (λ (o : Option Entry). option_map entry_view o) e
-      ∙ sym (slice_get-map entry_view s.entries (id - s.first))
-      ∙ sym (type_at_block (id - s.first) s.first id (entry_views s.entries) (omega arith))
+    ∙ sym (slice_get-map entry_view s.entries (id - s.first))
+    ∙ sym (type_at_block (id - s.first) s.first id (entry_views s.entries) (omega arith))
 
 -- ---- the walk over blocks
 

@@ -70,8 +70,8 @@ named name shape = record { name = name; shape = shape }
 abbrev pub built_in_types : List Named
 built_in_types =
     named (codes "unit") unit ∷ named (codes "flag") flag ∷ named (codes "unsigned") unsigned ∷ named (codes "signed") signed
-      ∷ named (codes "text") text ∷ named (codes "bytes") bytes ∷ named (codes "place") place
-      ∷ named (codes "unsigneds") (list unsigned) ∷ named (codes "texts") (list text) ∷ named (codes "places") (list place) ∷ []
+    ∷ named (codes "text") text ∷ named (codes "bytes") bytes ∷ named (codes "place") place
+    ∷ named (codes "unsigneds") (list unsigned) ∷ named (codes "texts") (list text) ∷ named (codes "places") (list place) ∷ []
 
 abbrev pub built_in : Table
 built_in = record { types = numbered 0 built_in_types; blocks = [] }
@@ -135,4 +135,4 @@ refusal t block first ns =
     or_else (if_some taken_id (first_taken t.types first ns)) (
     or_else (so (name_is_in t.blocks block) (taken_name block)) (
     or_else (if_some taken_name (first_name t.types [] ns))
-      (if_some too_deep (first_deep first ns)))))
+    (if_some too_deep (first_deep first ns)))))

@@ -8,7 +8,12 @@ use sqlite_items::Items;
 use std::alloc::Global;
 
 /// Adds a field at the end, of whose name it is known that it is one.
-pub fn declare_field(alloc: Global, fields: &mut Items<Field>, name: &str, shape: Shape) -> Result<(), Memory>
+pub fn declare_field(
+    alloc: Global,
+    fields: &mut Items<Field>,
+    name: &str,
+    shape: Shape,
+) -> Result<(), Memory>
     requires { IsTrue (is_name name.now) }
     ensures { OnOk result (map field_view fields.new ≡ map field_view fields.old ++ (name.now, form shape) ∷ []) }
 {
@@ -18,7 +23,12 @@ pub fn declare_field(alloc: Global, fields: &mut Items<Field>, name: &str, shape
 }
 
 /// Adds an entry at the end, of whose name it is known that it is one.
-pub fn declare_type(alloc: Global, entries: &mut Seq<Entry>, name: &str, shape: Shape) -> Result<(), Memory>
+pub fn declare_type(
+    alloc: Global,
+    entries: &mut Seq<Entry>,
+    name: &str,
+    shape: Shape,
+) -> Result<(), Memory>
     requires { IsTrue (is_name name.now) }
     ensures { OnOk result (entry_views entries.new ≡ entry_views entries.old ++ named name.now (form shape) ∷ []) }
 {

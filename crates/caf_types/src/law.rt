@@ -7,5 +7,4 @@ pub fn block_joins()
     ensures shapes { (t : Table) (block : List ℕ) (first : ℕ) (ns : List Named) (id : ℕ) → shape_at (with_block t block first ns) id ≡ or_else (shape_at t id) (shape_in first ns id) }
     ensures names { (t : Table) (block : List ℕ) (first : ℕ) (ns : List Named) (id : ℕ) → name_at (with_block t block first ns) id ≡ or_else (name_at t id) (name_in first ns id) }
     ensures found { (t : Table) (block : List ℕ) (first : ℕ) (ns : List Named) (name : List ℕ) → find (with_block t block first ns) name ≡ or_else (find t name) (find_in first ns name) }
-{
-}
+{}

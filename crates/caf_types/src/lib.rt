@@ -1,4 +1,13 @@
-//! The types that every other crate stands on: lists, texts, and want of memory.
+//! The types that every other crate stands on: lists and texts, shapes of values and tables of named
+//! types, errors, reasons and notices.
+//!
+//! Model: contracts see a [`Seq`] as the list of its items, a [`Letters`] or a [`Name`] as the list
+//! of its bytes, a [`Shape`] as a plain tree, and a [`TypeTable`] as the finite map from IDs to named
+//! shapes together with the list of its blocks' names.
+//!
+//! The contract above which all layers build: a table after [`TypeTable::add_block`] is the old map
+//! with the block, a refused one is the old map, and look-ups tell what the map has. A refused call
+//! leaves what it was lent as it was.
 #![tactic(auto)]
 
 mod block;
@@ -22,7 +31,10 @@ pub use name::{Name, NameFault};
 pub use notice::{Mid, Notice, Priority};
 pub use reason::Reason;
 pub use sec::Sec;
-pub use seq::Seq;
+pub use seq::{Octets, Places, Seq, TypeIds, Words};
 pub use shape::{Entry, Field, Shape, TypeId};
 pub use sqlite_items::{Boxed, Items};
 pub use table::{TableFault, TypeTable};
+
+#[cfg(test)]
+mod tests;

@@ -61,7 +61,12 @@ impl TypeTable {
     /// Adds `entries` under the IDs from `first` on. Its refusals are tried in the order `Range`,
     /// `Taken`, `Name`, `Deep`; `Memory` may come in place of any answer. After a refusal the table
     /// is as before.
-    pub fn add_block(&mut self, block: Name, first: u16, entries: Seq<Entry>) -> Result<(), TableFault>
+    pub fn add_block(
+        &mut self,
+        block: Name,
+        first: u16,
+        entries: Seq<Entry>,
+    ) -> Result<(), TableFault>
         ensures answer { TableAnswer result (refusal (seen self.old) block first (entry_views entries)) }
         ensures added { OnOk result (seen self.new ≡ with_block (seen self.old) block first (entry_views entries)) }
         ensures kept { OnErr result (seen self.new ≡ seen self.old) }

@@ -1,6 +1,5 @@
-use Rattle.std.proofs.Common.{ℕ, List, Option, ◌∙◌, ap}
+use Rattle.std.proofs.Common.{◌∙◌, ap}
 use Rattle.std.specs.Option.{option_map}
-use Rattle.caf_types.specs.Form.{Form}
 use Rattle.caf_types.specs.Table.{Named, type_at, type_in}
 use Rattle.caf_types.proofs.TableLemmas.{type_joins, id_joins, map_or_else}
 use Rattle.caf_types.proofs.law.block_joins.Goals as goal

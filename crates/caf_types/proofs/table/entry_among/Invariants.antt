@@ -1,4 +1,4 @@
-use Rattle.std.proofs.Common.{◌≡◌, ◌+◌, drop, take, []}
+use Rattle.std.proofs.Common.{◌≡◌, drop}
 use Rattle.caf_types.specs.Table.{type_at}
 use Rattle.caf_types.specs.TypeTable.{blocks_types}
 use Rattle.caf_types.proofs.table.entry_among.Given as goal

@@ -1,4 +1,4 @@
-use Rattle.std.proofs.Common.{sym, arith}
+use Rattle.std.proofs.Common.{sym}
 use Rattle.caf_types.specs.Shape.{entry_views}
 use Rattle.caf_types.proofs.TableLemmas.{type_at_below, entry_shown}
 use Rattle.caf_types.proofs.table.entry_in.Goals as goal

@@ -1,4 +1,4 @@
-use Rattle.std.proofs.Common.{◌≡◌, ◌+◌, drop, take, []}
+use Rattle.std.proofs.Common.{◌≡◌, drop}
 use Rattle.caf_types.specs.Table.{name_is_in}
 use Rattle.caf_types.specs.TypeTable.{block_names}
 use Rattle.caf_types.proofs.table.has_block.Given as goal

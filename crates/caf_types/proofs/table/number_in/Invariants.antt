@@ -1,4 +1,4 @@
-use Rattle.std.proofs.Common.{◌≡◌, ◌+◌, drop, take, []}
+use Rattle.std.proofs.Common.{◌≡◌, ◌+◌, drop}
 use Rattle.caf_types.specs.Table.{id_of, numbered}
 use Rattle.caf_types.specs.Shape.{entry_views}
 use Rattle.caf_types.proofs.table.number_in.Given as goal
