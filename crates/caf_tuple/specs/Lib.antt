@@ -1,0 +1,3 @@
+pub mod TupleRule
+pub mod IsReference
+pub mod Owning
