@@ -1,5 +1,5 @@
 -- What each call does to a reference, as its holder sees it.
-use Rattle.std.specs.Prelude.{ℕ, ◌+◌, ◌-◌, ◌/◌, ◌^◌, ◌==◌, true, false, List, [], ◌∷◌, ◌++◌, take, slice_set}
+use Rattle.std.specs.Prelude.{ℕ, ◌+◌, ◌-◌, ◌/◌, ◌==◌, true, false, List, [], ◌∷◌, ◌++◌, take, slice_set}
 use Rattle.caf_steps.specs.declared.step.Step.{Step}
 use Rattle.caf_steps.specs.declared.step.Step.TheVariants.{Make, Retain, Test, Read, Write}
 use Rattle.caf_steps.specs.declared.reference.Reference.{Reference}

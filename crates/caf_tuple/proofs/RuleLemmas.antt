@@ -1,14 +1,15 @@
 -- Each step at a block keeps its rule.
-use Rattle.std.proofs.Common.{◌≡◌, ◌≢◌, ℕ, zero, suc, ◌+◌, ◌-◌, ◌/◌, ◌%◌, ◌^◌, ◌<◌, ◌≤◌, true, false, true≢false, List, [], ◌∷◌, ◌++◌, get_or, set, sym, refl, ap, ◌∙◌, subst, ⊎_elim, add-one, eqb-true, arith}
+use Rattle.std.proofs.Common.{◌≡◌, ◌≢◌, ℕ, zero, suc, ◌+◌, ◌-◌, ◌%◌, ◌^◌, ◌<◌, ◌≤◌, true, true≢false, List, [], ◌∷◌, ◌++◌, get_or, set, sym, refl, ap, ◌∙◌, subst, ⊎_elim, add-one, eqb-true, arith}
 use Rattle.std.specs.List.{sum_by}
 use Rattle.std.proofs.lemmas.List.Sums.{sum_by_push, sum_by-le-sum_by}
 use mathlib.Core.Option.{none, some}
 use lib.ListN.{get_elem?}
-use Rattle.atomic_table.specs.Table.{State, Me, step, keeps, Allows, Splits}
+use Rattle.atomic_table.specs.Table.{State, step, keeps, Allows, Splits}
 use Rattle.atomic_table.proofs.Lists.{at_set, at_snoc}
 use Rattle.caf_steps.specs.Reference.{tested, read, written}
 use Rattle.caf_tuple.specs.declared.block.View.{View}
-use Rattle.caf_tuple.specs.TupleRule.{refs_of, weight_by, weight_of, TupleRule, Hand, Retains, retained_view, kept_view, new_view, seeing, Tests, Reads, Writes, released_view, Releases}
+use Rattle.caf_tuple.specs.Block.{refs_of, weight_by, weight_of, TupleRule}
+use Rattle.caf_tuple.specs.Plays.{Seated, Retains, retained_view, old_view, new_view, seeing, Tests, Reads, Writes, released_view, Releases}
 use Rattle.caf_tuple.proofs.SumLemmas.{sum_by-set_at, le-sum_by, two-le-sum_by, sum_by-alone}
 
 abbrev Block : Type 0
@@ -72,7 +73,7 @@ module _ (s : Block) (k : TupleRule s) (id : ℕ) (v : View) (at : get_elem? s.v
     bounded = let moved = sum_by-set_at weight_of s.views id v w at in let b = k.bounded in omega arith;
   }
 
-pub retain-keeps : (slots id : ℕ) (me : Hand) → me.0.refs ≡ 1 → 1 ≤ me.0.seen.room → Allows TupleRule slots id me 0 (λ n. (n + 1) % 2 ^ 64) (Retains (step slots 0 1 0 none) me)
+pub retain-keeps : (slots id : ℕ) (me : Seated) → me.0.refs ≡ 1 → 1 ≤ me.0.seen.room → Allows TupleRule slots id me 0 (λ n. (n + 1) % 2 ^ 64) (Retains (step slots 0 1 0 none) me)
 retain-keeps slots id me one more s k _ at small = let v : View = me.0 in let w : View = retained_view v in let held : 0 < v.refs = omega arith in
     let moved = sum_by-set_at refs_of s.views id v w at in let b = k.bounded in let fewer = refs-le-weight s.views in let heavy = weight-one v one in
     let here = le-sum_by weight_of s.views id v at in
@@ -86,8 +87,8 @@ retain-keeps slots id me one more s k _ at small = let v : View = me.0 in let w 
       refl,
     )
 
-pub split-keeps : (id : ℕ) (v : View) → v.refs ≡ 2 → Splits TupleRule id v (kept_view v) (new_view v)
-split-keeps id v two s k at = let l : View = kept_view v in let r : View = new_view v in let held : 0 < v.refs = omega arith in
+pub split-keeps : (id : ℕ) (v : View) → v.refs ≡ 2 → Splits TupleRule id v (old_view v) (new_view v)
+split-keeps id v two s k at = let l : View = old_view v in let r : View = new_view v in let held : 0 < v.refs = omega arith in
     let views : List View = set s.views id l in
     let moved = sum_by-set_at refs_of s.views id v l at in let added = sum_by_push refs_of views r in
     let moved' = sum_by-set_at weight_of s.views id v l at in let added' = sum_by_push weight_of views r in let heavy = weight-two v two in let b = k.bounded in
@@ -115,7 +116,7 @@ split-keeps id v two s k at = let l : View = kept_view v in let r : View = new_v
       bounded = bound;
     }
 
-pub release-keeps : (slots id : ℕ) (me : Hand) → me.0.refs ≡ 1 → Allows TupleRule slots id me 0 (λ n. (n + (2 ^ 64 - 1)) % 2 ^ 64) (Releases (step slots 0 1 0 none) me)
+pub release-keeps : (slots id : ℕ) (me : Seated) → me.0.refs ≡ 1 → Allows TupleRule slots id me 0 (λ n. (n + (2 ^ 64 - 1)) % 2 ^ 64) (Releases (step slots 0 1 0 none) me)
 release-keeps slots id me one s k _ at small = let v : View = me.0 in let w : View = released_view v in let held : 0 < v.refs = omega arith in
     let moved = sum_by-set_at refs_of s.views id v w at in let b = k.bounded in let fewer = refs-le-weight s.views in
     let n : ℕ = sum_by refs_of s.views in let m : ℕ = sum_by refs_of (set s.views id w) in let is : (n + (2 ^ 64 - 1)) % 2 ^ 64 ≡ m = omega arith in (
@@ -128,7 +129,7 @@ release-keeps slots id me one s k _ at small = let v : View = me.0 in let w : Vi
       refl,
     )
 
-pub test-keeps : (slots id : ℕ) (me : Hand) → me.0.refs ≡ 1 → Allows TupleRule slots id me 0 (λ n. n) (Tests (step slots 0 0 0 none) me)
+pub test-keeps : (slots id : ℕ) (me : Seated) → me.0.refs ≡ 1 → Allows TupleRule slots id me 0 (λ n. n) (Tests (step slots 0 0 0 none) me)
 test-keeps slots id me one s k _ at small = let v : View = me.0 in let n : ℕ = get_or s.words 0 0 in let w : View = seeing (tested n v.seen) v in let held : 0 < v.refs = omega arith in
     let moved = sum_by-set_at refs_of s.views id v w at in let here : refs_of v ≤ sum_by refs_of s.views = le-sum_by refs_of s.views id v at in
     let found : n ≡ sum_by refs_of s.views = ap (λ (ws : List ℕ). get_or ws 0 0) k.words_are in
@@ -144,7 +145,7 @@ test-keeps slots id me one s k _ at small = let v : View = me.0 in let n : ℕ =
       (refl, omega arith, λ sole. let only = sum_by-alone refs_of s.views id v at (λ j u other there. k.alone id j v u at sole other there) in found ∙ only ∙ one),
     )
 
-pub read-keeps : (slots id i : ℕ) (me : Hand) → me.0.refs ≡ 1 → Allows TupleRule slots id me (i + 1) (λ n. n) (Reads (step slots (i + 1) 0 0 none) me)
+pub read-keeps : (slots id i : ℕ) (me : Seated) → me.0.refs ≡ 1 → Allows TupleRule slots id me (i + 1) (λ n. n) (Reads (step slots (i + 1) 0 0 none) me)
 read-keeps slots id i me one s k _ at small = let v : View = me.0 in let n : ℕ = get_or s.words (i + 1) 0 in let w : View = seeing (read ((i + 1) - 1) n v.seen) v in let held : 0 < v.refs = omega arith in
     let moved = sum_by-set_at refs_of s.views id v w at in
     let is : sum_by refs_of s.views ≡ sum_by refs_of (set s.views id w) = omega arith in
@@ -158,7 +159,7 @@ read-keeps slots id i me one s k _ at small = let v : View = me.0 in let n : ℕ
       (refl, ap (λ (ws : List ℕ). get_or ws (i + 1) 0) k.words_are ∙ get_or-behind (sum_by refs_of s.views) k.payload i ∙ ap (λ (l : List ℕ). get_or l i 0) (sym content) ∙ ap (λ (j : ℕ). get_or v.seen.content j 0) (omega arith)),
     )
 
-pub write-keeps : (slots id i x : ℕ) (me : Hand) → me.0.refs ≡ 1 → me.0.seen.sole ≡ true → Allows TupleRule slots id me (i + 1) (λ _. x) (λ _. Writes (step slots (i + 1) x 0 none) me x)
+pub write-keeps : (slots id i x : ℕ) (me : Seated) → me.0.refs ≡ 1 → me.0.seen.sole ≡ true → Allows TupleRule slots id me (i + 1) (λ _. x) (λ _. Writes (step slots (i + 1) x 0 none) me x)
 write-keeps slots id i x me one sole s k _ at small = let v : View = me.0 in let w : View = seeing (written ((i + 1) - 1) x v.seen) v in let held : 0 < v.refs = omega arith in
     let moved = sum_by-set_at refs_of s.views id v w at in
     let is : sum_by refs_of s.views ≡ sum_by refs_of (set s.views id w) = omega arith in

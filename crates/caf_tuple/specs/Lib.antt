@@ -1,3 +1,4 @@
-pub mod TupleRule
-pub mod IsReference
-pub mod Owning
+pub mod Block
+pub mod Plays
+pub mod Held
+pub mod Tuple

@@ -19,7 +19,7 @@ pub struct View {
 pub struct Counted;
 
 impl TableRule<(), View, Vec<u64>> for Counted {
-    ghost use Rattle.caf_tuple.specs.TupleRule.{TupleRule, first_view};
+    ghost use Rattle.caf_tuple.specs.Block.{TupleRule, first_view};
 
     ghost holds = { λ _. TupleRule };
 

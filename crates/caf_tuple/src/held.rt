@@ -1,6 +1,6 @@
 ghost use Rattle.std.specs.Prelude.{◌≡◌, ◌+◌, ◌<◌, ◌≤◌, true, length, slice_index};
 ghost use Rattle.caf_steps.specs.Reference.{retained, second, tested, read, written};
-ghost use Rattle.caf_tuple.specs.IsReference.{IsReference};
+ghost use Rattle.caf_tuple.specs.Held.{IsReference};
 
 use crate::block::{Block, View};
 use crate::plays::{Part, Read, Release, Retain, Test, Write};

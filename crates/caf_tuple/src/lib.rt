@@ -2,7 +2,7 @@
 //!
 //! Model: a [`Tuple`] is one reference, seen as a `Reference` of `caf_steps`: its content, the steps
 //! that it made, its room, and whether it is sole. What ties all references of a block to its count
-//! and its words is the rule of `specs/TupleRule.antt`, which holds between any two atomic steps.
+//! and its words is the rule of `specs/Block.antt`, which holds between any two atomic steps.
 //!
 //! The contract that the layer above rests on: the content of a reference changes by its own `set`
 //! alone, which needs it to be sole; and `own` makes it sole, by one test and at most one copy.

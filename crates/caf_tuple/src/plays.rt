@@ -1,5 +1,5 @@
 //! What each atomic step at a block tells the one who makes it.
-ghost use Rattle.caf_tuple.specs.TupleRule.{Retains, Tests, Reads, Writes, Releases, kept_view, new_view};
+ghost use Rattle.caf_tuple.specs.Plays.{Retains, Tests, Reads, Writes, Releases, old_view, new_view};
 
 use crate::block::View;
 use atomic_table::{Play, Split};
@@ -15,7 +15,7 @@ impl Play<(), View> for Retain {
 pub struct Part;
 
 impl Split<View> for Part {
-    ghost left = { kept_view };
+    ghost left = { old_view };
 
     ghost right = { new_view };
 }

@@ -1,6 +1,6 @@
-ghost use Rattle.std.specs.Prelude.{◌≡◌, ℕ, ◌↔◌, ◌+◌, ◌<◌, ◌≤◌, true, [], ◌∷◌, ◌++◌, drop, length, IfOk, OnErr, IfErr, IsErrOf, slice_index};
+ghost use Rattle.std.specs.Prelude.{◌≡◌, ℕ, ◌↔◌, ◌+◌, ◌<◌, ◌≤◌, true, [], ◌∷◌, ◌++◌, drop, length, IfOk, OnOk, OnErr, IsErrOf, slice_index};
 ghost use Rattle.caf_steps.specs.Reference.{fresh, retained, second, tested, read, written, looked};
-ghost use Rattle.caf_tuple.specs.Owning.{Owns, GaveUp};
+ghost use Rattle.caf_tuple.specs.Tuple.{Owns, GaveUp};
 
 use crate::block::{Block, Counted, MOST_WORDS};
 use crate::fault::TupleFault;
@@ -28,7 +28,7 @@ impl Model for Tuple {
     ghost use Rattle.std.specs.Prelude.{◌≡◌};
     ghost use Rattle.std.specs.Arc.{arc_value};
     ghost use Rattle.caf_steps.specs.declared.reference.Reference.{Reference};
-    ghost use Rattle.caf_tuple.specs.IsReference.{IsReference};
+    ghost use Rattle.caf_tuple.specs.Held.{IsReference};
 
     ghost Value = { Reference };
 
@@ -84,7 +84,7 @@ impl Tuple {
     pub fn retain(&mut self) -> Result<Tuple, Memory>
         requires { 1 ≤ self.old.room }
         ensures new { IfOk result (λ tuple. tuple ≡ second self.old) }
-        ensures old { IfOk result (λ _. self.new ≡ retained self.old) }
+        ensures old { OnOk result (self.new ≡ retained self.old) }
         ensures memory { OnErr result (self.new ≡ self.old) }
     {
         let Ok(block) = Arc::try_clone(&self.block) else {
@@ -151,7 +151,7 @@ impl Tuple {
     fn copy_words(&mut self, alloc: Global) -> Result<Vec<u64>, Memory>
         ensures within { length self.old.content ≤ MOST_WORDS }
         ensures copied { IfOk result (λ laid. laid.items ≡ 1 ∷ self.old.content) }
-        ensures looked { IfOk result (λ _. self.new ≡ looked (length self.old.content) self.old) }
+        ensures looked { OnOk result (self.new ≡ looked (length self.old.content) self.old) }
         ensures memory { OnErr result ((n : ℕ) × (n ≤ length self.old.content) × (self.new ≡ looked n self.old)) }
     {
         let len = self.len();
