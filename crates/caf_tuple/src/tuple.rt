@@ -17,7 +17,10 @@ const FULL_ROOM: u64 = 1 << 62;
 
 /// One reference to a block of words, which other references may share.
 ///
-/// It may move to another thread. Dropping it gives the reference up, as [`Tuple::release`] does.
+/// So actors share the content of a message as long as none of them writes it, and one that writes
+/// copies it first where others hold it (CAF manual, copy on write).
+///
+/// A reference may move to another thread. Dropping it gives the reference up, as [`Tuple::release`] does.
 pub struct Tuple {
     block: Arc<Block, Global>,
     held: Held,
