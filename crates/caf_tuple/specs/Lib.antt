@@ -1,0 +1,4 @@
+pub mod Block
+pub mod Plays
+pub mod Held
+pub mod Tuple
