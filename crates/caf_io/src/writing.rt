@@ -1,0 +1,18 @@
+ghost use Rattle.std.specs.Prelude.{◌≡◌, ◌≤◌, OnOk, OnErr};
+ghost use Rattle.caf_io.specs.Faults.{Rose};
+ghost use Rattle.caf_io.specs.Sink.{added, AddsPrefix};
+
+use crate::{Failed, Sink};
+
+/// Writes the text in pieces of 65,536 bytes.
+///
+/// [`Failed`] comes only where the count of faults of `out` rose in this call. Then a prefix of the
+/// text was added.
+pub fn write_all<S: Sink>(out: &mut S, text: &[u8]) -> Result<(), Failed>
+    ensures whole { OnOk result (S.written out.new ≡ added (S.written out.old) text.now) }
+    ensures part { OnErr result (AddsPrefix (S.written out.old) (S.written out.new) text.now) }
+    ensures cause { OnErr result (Rose (S.faults out.old) (S.faults out.new)) }
+    ensures never_falls { S.faults out.old ≤ S.faults out.new }
+{
+    out.write(text)
+}
