@@ -2,3 +2,5 @@
 pub mod Faults
 pub mod Files
 pub mod Sink
+pub mod MemoryFiles
+pub mod MemorySink

@@ -11,12 +11,18 @@
 
 mod failed;
 mod files;
+mod host;
+mod memory_files;
+mod memory_sink;
 mod reading;
 mod sink;
 mod writing;
 
 pub use failed::Failed;
 pub use files::Files;
+pub use host::{HostFiles, HostSink};
+pub use memory_files::MemoryFiles;
+pub use memory_sink::MemorySink;
 pub use reading::{ReadFault, read_file};
 pub use sink::Sink;
 pub use writing::write_all;
