@@ -1,0 +1,6 @@
+use Rattle.std.proofs.Common.{◌≡◌, ℕ, ◌<◌, ◌-◌, length, get_or, sym, ap, subst, arith}
+use Rattle.caf_index.proofs.NumberMapLemmas.{place_past_last}
+use Rattle.caf_index.proofs.number_map.place_of.Goals as goal
+
+pub returns-then-last-key-clause-absent : goal.returns-then-last-key-clause-absent
+returns-then-last-key-clause-absent g c = ?
