@@ -1,2 +1,9 @@
 pub mod SortedLemmas
 pub mod NumberMapLemmas
+pub mod CountLemmas
+pub mod IndexLemmas
+pub mod TextLemmas
+pub mod WordLemmas
+pub mod EntryLemmas
+pub mod OccurrenceLemmas
+pub mod PlainIndexLemmas

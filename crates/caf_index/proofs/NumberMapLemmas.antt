@@ -27,13 +27,14 @@ equal_from Less e = cc
 equal_from Equal e = refl
 equal_from Greater e = cc
 
--- a key that has the value already
-pub insert_present : {K X : Type 0} {R : K → K → Ordering} → IsTotalOrder R → IsAntisymmetric R → (m : FinMap R X) (k : K) (v : X) → map.get m k ≡ Some v → map.insert m k v ≡ m
-insert_present {R = R} o same m k v is = map.same_map o same _ _ (λ q. map.get-insert o m k v q ∙ at q (eq_by_cmp R q k) refl)
-  where
-    at : (q : K) (b : Bool) → eq_by_cmp R q k ≡ b → cond b (Some v) (map.get m q) ≡ map.get m q
-    at q true e = sym (map.get_tied o m q k (equal_from _ e) ∙ is) ∙ refl
-    at q false e = refl
+module _ {K X : Type 0} {R : K → K → Ordering} where
+  same_value : IsTotalOrder R → (m : FinMap R X) (k : K) (v : X) → map.get m k ≡ Some v → (q : K) (b : Bool) → eq_by_cmp R q k ≡ b → cond b (Some v) (map.get m q) ≡ map.get m q
+  same_value o m k v is q true e = sym is ∙ map.get_tied o m q k (equal_from _ e)
+  same_value o m k v is q false e = refl
+
+  -- a key that has the value already
+  pub insert_present : IsTotalOrder R → IsAntisymmetric R → (m : FinMap R X) (k : K) (v : X) → map.get m k ≡ Some v → map.insert m k v ≡ m
+  insert_present o same m k v is = map.same_map o same _ _ (λ q. map.get-insert o m k v q ∙ same_value o m k v is q (eq_by_cmp R q k) refl)
 
 module _ {X : Type 0} where
   -- what the halving of a list finds

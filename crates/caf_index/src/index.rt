@@ -1,4 +1,6 @@
-ghost use Rattle.std.specs.Prelude.{◌≡◌, ◌+◌, IfOk, OnErr, OnOk, not, map as each};
+ghost use Rattle.std.specs.Prelude.{◌≡◌, IfOk, OnErr, OnOk, not, string_bytes, map as each};
+ghost use Rattle.std.specs.String.{string_eq};
+ghost use Rattle.std.specs.HashMap.{keys, IsUnique};
 ghost use Rattle.std.specs.Option.{option_copied};
 ghost use Rattle.std.specs.FinMap as map;
 ghost use Rattle.caf_index.specs.Index.{with_entry, has_entry, entry_count, index_of_rows};
@@ -89,12 +91,7 @@ impl Index {
     pub(crate) fn sorted_words(&self) -> Result<Vec<&str>, AllocError>
         ensures { IfOk result (λ words. each (λ w. w.now) words.items ≡ map.keys self.now) }
     {
-        let mut words = Vec::with_capacity(self.alloc, self.words.len())?;
-        for word in self.words.keys() {
-            words.push(word.as_str())?;
-        }
-        words.sort()?;
-        Ok(words)
+        sorted_texts(self.alloc, &self.words)
     }
 }
 
@@ -123,4 +120,25 @@ fn add_to(
             Ok(is_new)
         }
     }
+}
+
+/// The words in byte order.
+fn sorted_texts(alloc: Global, words: &HashMap<String, Files>) -> Result<Vec<&str>, AllocError>
+    ensures { IfOk result (λ texts. each (λ t. t.now) texts.items ≡ map.keys (index_of_rows words.now.entries)) }
+{
+    let mut texts = texts_of(alloc, words)?;
+    texts.sort()?;
+    Ok(texts)
+}
+
+/// The words in the order in which they are kept.
+fn texts_of(alloc: Global, words: &HashMap<String, Files>) -> Result<Vec<&str>, AllocError>
+    ensures texts { IfOk result (λ texts. each (λ t. t.now) texts.items ≡ each (λ w. string_bytes w) (keys words.now)) }
+    ensures apart { IsUnique string_eq words.now }
+{
+    let mut texts = Vec::with_capacity(alloc, words.len())?;
+    for word in words.keys() {
+        texts.push(word.as_str())?;
+    }
+    Ok(texts)
 }

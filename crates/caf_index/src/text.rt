@@ -1,5 +1,6 @@
 ghost use Rattle.std.specs.Prelude.{◌≡◌, ◌++◌, decimal, flat_map, IfOk, OnOk, map as each};
 ghost use Rattle.std.specs.Option.{option_copied};
+ghost use Rattle.caf_index.specs.Index.{files_of};
 ghost use Rattle.caf_index.specs.IndexText.{name_of, number_text, file_text, files_text, under_word, index_text_of};
 
 use crate::Index;
@@ -17,15 +18,28 @@ pub fn index_text(alloc: Global, names: &Seq<Letters>, index: &Index) -> Result<
     let words = index.sorted_words()?;
     let mut text = Vec::new(alloc);
     for word in &words {
-        if let Some(files) = index.files(word) {
-            push_word(&mut text, names.as_slice(), word, files)?;
-        }
+        push_word(&mut text, names.as_slice(), index, word)?;
     }
     Ok(Seq::of_vec(text))
 }
 
-/// Adds the word and its files; nothing where none of these has a name.
+/// Adds the word with its files.
 fn push_word(
+    text: &mut Vec<u8>,
+    names: &[Letters],
+    index: &Index,
+    word: &str,
+) -> Result<(), AllocError>
+    ensures { OnOk result (text.new.items ≡ text.old.items ++ under_word word.now (files_text names.now (files_of index.now word.now))) }
+{
+    match index.files(word) {
+        Some(files) => push_under(text, names, word, files),
+        None => Ok(()),
+    }
+}
+
+/// Adds the word and below it its files; nothing where none of these has a name.
+fn push_under(
     text: &mut Vec<u8>,
     names: &[Letters],
     word: &str,

@@ -14,14 +14,14 @@ invariant_of-self-in-Err c =
 
 pub returns-in-Ok-clause-added : goal.returns-in-Ok-clause-added
 returns-in-Ok-clause-added c =
-    let found = subst (λ xs. IsFoundAt xs c.args.line c.in-Ok.place) c.as_slice.ensures.value c.in-Ok.ensures.found in
-    let present = get-found c.args.line c.self.inside.entries.items c.in-Ok.place c.self.invariant found (0, tt) in
+    let found = subst (λ xs. IsFoundAt xs c.args.line c.in-Ok.field-0) c.as_slice.ensures.value c.in-Ok.ensures.found in
+    let present = get-found c.args.line c.self.inside.entries.items c.in-Ok.field-0 c.self.invariant found (0, tt) in
     sym (insert_present nat_cmp_total nat_cmp-IsAntisymmetric c.args.self.now c.args.line tt (ap (λ m. map.get m c.args.line) (sym c.self.view_is) ∙ present))
 
 pub returns-in-Ok-clause-is_new : goal.returns-in-Ok-clause-is_new
 returns-in-Ok-clause-is_new c =
-    let found = subst (λ xs. IsFoundAt xs c.args.line c.in-Ok.place) c.as_slice.ensures.value c.in-Ok.ensures.found in
-    let present = get-found c.args.line c.self.inside.entries.items c.in-Ok.place c.self.invariant found (0, tt) in
+    let found = subst (λ xs. IsFoundAt xs c.args.line c.in-Ok.field-0) c.as_slice.ensures.value c.in-Ok.ensures.found in
+    let present = get-found c.args.line c.self.inside.entries.items c.in-Ok.field-0 c.self.invariant found (0, tt) in
     sym (ap (λ o. not (is_some o)) (ap (λ m. map.get m c.args.line) (sym c.self.view_is) ∙ present))
 
 pub returns-in_ok-insert-in-Err-clause-added : goal.returns-in_ok-insert-in-Err-clause-added
