@@ -1,7 +1,6 @@
 -- An index that is kept as rows, each a word with its files.
-use Rattle.std.proofs.Common.{◌≡◌, ◌≢◌, ℕ, zero, suc, ◌+◌, ◌-◌, ◌<◌, ◌≤◌, Bool, true, false, cond, not, List, [], ◌∷◌, ◌++◌, length, get_or, Option, Some, None, Result, String, refl, sym, ap, subst, ◌∙◌, arith}
-use Rattle.std.specs.Prelude.{IsTrue, T, ◌&&◌, ◌||◌, string_bytes, is_some, is_none, OnErr, Ok, Err, map}
-use Rattle.std.specs.List as lists
+use Rattle.std.proofs.Common.{◌≡◌, ℕ, suc, ◌+◌, ◌<◌, Bool, true, false, cond, List, [], ◌∷◌, length, get_or, Option, Some, None, Result, String, refl, sym, ap, subst, ◌∙◌, arith}
+use Rattle.std.specs.Prelude.{T, ◌&&◌, ◌||◌, string_bytes, is_some, OnErr, Ok, Err, map}
 use Rattle.std.specs.List.{list_any, IsDistinct, AllByRecursion}
 use Rattle.std.specs.List.Sorted.{IsPermutation, IsSorted, IsStrictlySortedBy}
 use Rattle.std.specs.Map.{lookup, keys_of, update}
@@ -10,17 +9,17 @@ use Rattle.std.specs.String.{string_eq}
 use Rattle.std.specs.Ordering.{nat_cmp, is_eq, is_lt, eq_by_cmp, ordering_reverse}
 use Rattle.std.specs.declared.cmp.Ordering.{Ordering}
 use Rattle.std.specs.declared.cmp.Ordering.TheVariants.{Less, Equal, Greater}
-use Rattle.std.specs.Cmp.{IsTotalOrder, nat_cmp_total}
+use Rattle.std.specs.Cmp.{IsTotalOrder}
 use Rattle.std.specs.Cmp.Lexicographic.{slice_cmp, nat_list_cmp_total, nat_list_eq_equiv}
 use Rattle.std.specs.FinMap as finite
 use Rattle.std.specs.FinMap.{FinMap, nat_cmp-IsAntisymmetric, slice_cmp-IsAntisymmetric, IsAntisymmetric}
 use Rattle.std.proofs.lemmas.Map.Text.{is_eq-slice_cmp}
 use Rattle.std.proofs.lemmas.Map.Keys.{IsDistinct-head, IsDistinct-tail, IsDistinct-cons, IsDistinct-from_apart, sorted_from_all_adjacent, apart_from_distinct, IsDistinct-IsPermutation, sorted_head, sorted_tail}
-use Rattle.std.proofs.lemmas.List.{get_or-map, length-map, map-append}
+use Rattle.std.proofs.lemmas.List.{get_or-map, length-map}
 use Rattle.std.proofs.lemmas.List.Sorted.{IsPermutation-map, list_any-IsPermutation}
 use Rattle.std.specs.FinMap.Entries.{below_all, same_entries, is_some-find}
-use Rattle.std.specs.Cmp.{tied_itself, eq_by_cmp_equiv}
-use Rattle.caf_index.specs.Index.{Entries, Files, Lines, files_of, lines_in, has_entry, with_line, with_entry, index_of_rows}
+use Rattle.std.specs.Cmp.{eq_by_cmp_equiv}
+use Rattle.caf_index.specs.Index.{Files, index_of_rows}
 
 pub on_err : {T E P : Type 0} (r : Result T E) → P → OnErr r P
 on_err (Ok x) p = tt
@@ -122,9 +121,9 @@ module _ {K : Type 0} (R : K → K → Ordering) where
   keys_from_sorted {X} o same ks m up has =
       sym (keys-bare ks)
       ∙ ap (map (λ (e : K × Unit {0}). e.0)) (same_entries R o same (bare ks) (bare (finite.keys m)) (sorted-bare ks up) (sorted-keys (finite.entries m) (finite.entries_sorted m))
-          (λ q. same_unit _ _
-            (is_some-find R q (bare ks) ∙ ap (list_any (eq_by_cmp R q)) (keys-bare ks) ∙ has q ∙ finite.contains_key-keys m q
-            ∙ ap (list_any (eq_by_cmp R q)) (sym (keys-bare (finite.keys m))) ∙ sym (is_some-find R q (bare (finite.keys m))))))
+      (λ q. same_unit _ _
+      (is_some-find R q (bare ks) ∙ ap (list_any (eq_by_cmp R q)) (keys-bare ks) ∙ has q ∙ finite.contains_key-keys m q
+      ∙ ap (list_any (eq_by_cmp R q)) (sym (keys-bare (finite.keys m))) ∙ sym (is_some-find R q (bare (finite.keys m))))))
       ∙ keys-bare (finite.keys m)
 
 any_found : (b : Bool) (x : Files) (o : Option Files) → (b || is_some o) ≡ is_some (cond b (Some x) o)
@@ -171,7 +170,7 @@ module _ {Y : Type 0} where
       let reordered : IsPermutation (map string_bytes (keys_of rows)) (map text ys) = subst (λ ks. IsPermutation ks (map text ys)) texts (IsPermutation-map text xs ys moved) in
       let differ : IsDistinct (eq_by_cmp (slice_cmp nat_cmp)) (map text ys) = IsDistinct-IsPermutation (eq_by_cmp (slice_cmp nat_cmp)) ((eq_by_cmp_equiv nat_list_cmp_total).symm) _ _ reordered (distinct-texts (keys_of rows) apart) in
       let strict : IsStrictlySortedBy (slice_cmp nat_cmp) (map text ys) = sorted_from_all_adjacent nat_list_cmp_total (map text ys) [] (λ k lt.
-          less_from_neighbours _ _ (nat_list_cmp_total.antisymm (get_or (map text ys) (k + 1) []) (get_or (map text ys) k [])) (rising-at text ys up k lt)
-              (apart_from_distinct (eq_by_cmp (slice_cmp nat_cmp)) (map text ys) k (k + 1) [] differ (omega arith) lt)) in
+      less_from_neighbours _ _ (nat_list_cmp_total.antisymm (get_or (map text ys) (k + 1) []) (get_or (map text ys) k [])) (rising-at text ys up k lt)
+      (apart_from_distinct (eq_by_cmp (slice_cmp nat_cmp)) (map text ys) k (k + 1) [] differ (omega arith) lt)) in
       keys_from_sorted (slice_cmp nat_cmp) nat_list_cmp_total words_apart (map text ys) (index_of_rows rows) strict
-          (λ q. sym (list_any-IsPermutation (eq_by_cmp (slice_cmp nat_cmp) q) _ _ reordered) ∙ has-rows rows q)
+      (λ q. sym (list_any-IsPermutation (eq_by_cmp (slice_cmp nat_cmp) q) _ _ reordered) ∙ has-rows rows q)

@@ -7,3 +7,4 @@ pub mod WordLemmas
 pub mod EntryLemmas
 pub mod OccurrenceLemmas
 pub mod PlainIndexLemmas
+pub mod WordExamples

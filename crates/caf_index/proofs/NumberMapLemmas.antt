@@ -1,14 +1,13 @@
 -- A map from numbers that is kept as entries in rising order.
-use Rattle.std.proofs.Common.{◌≡◌, ◌≢◌, ℕ, zero, suc, ◌+◌, ◌-◌, ◌<◌, ◌≤◌, Bool, true, false, cond, not, List, [], ◌∷◌, ◌++◌, length, get_or, set, Option, Some, None, refl, sym, ap, subst, ◌∙◌, arith, ltb}
-use Rattle.std.specs.Prelude.{insert, is_some, IsTrue, T}
-use Rattle.std.specs.List.{AllWithin}
+use Rattle.std.proofs.Common.{◌≡◌, ◌≢◌, ℕ, ◌-◌, ◌<◌, ◌≤◌, Bool, true, false, cond, List, [], length, get_or, set, Some, None, refl, sym, ap, subst, ◌∙◌, arith, ltb}
+use Rattle.std.specs.Prelude.{insert, IsTrue, T}
 use Rattle.std.specs.List.Sorted.{IsPartitionPoint}
 use Rattle.std.specs.Ordering.{nat_cmp, is_eq, eq_by_cmp}
 use Rattle.std.specs.declared.cmp.Ordering.{Ordering}
 use Rattle.std.specs.declared.cmp.Ordering.TheVariants.{Less, Equal, Greater}
 use Rattle.std.specs.Cmp.{nat_cmp_total, IsTotalOrder}
 use Rattle.std.specs.FinMap as map
-use Rattle.std.specs.FinMap.{FinMap, put, find, is_sorted, nat_cmp-IsAntisymmetric, IsAntisymmetric}
+use Rattle.std.specs.FinMap.{FinMap, put, find, is_sorted, IsAntisymmetric}
 use Rattle.std.specs.FinMap.Entries.{is_sorted-put}
 use Rattle.std.proofs.lemmas.List.{get_or_default}
 use Rattle.std.proofs.lemmas.Bool.{ltb-true, ltb-false}
@@ -39,17 +38,25 @@ module _ {K X : Type 0} {R : K → K → Ordering} where
 module _ {X : Type 0} where
   -- what the halving of a list finds
   pub place_from_parts : (k : ℕ) (es : List (ℕ × X)) (i : ℕ) → i ≤ length es → IsPartitionPoint (λ (e : ℕ × X). ltb e.0 k ≡ true) (λ (e : ℕ × X). ltb e.0 k ≡ false) es i → ((d : ℕ × X) → i < length es → (get_or es i d).0 ≢ k) → IsPlaceFor es k i
-  place_from_parts k es i fits parts differs = (fits, (λ j d le lt. ltb-true _ _ (parts.0 j d le lt)), (λ d lt.
-      let above : k ≤ (get_or es i d).0 = ltb-false _ _ (parts.1 i d (omega arith) lt) in
-      let other : (get_or es i d).0 ≢ k = differs d lt in omega (arith, above, other)))
+  place_from_parts k es i fits parts differs = (
+    fits,
+    (λ j d le lt. ltb-true _ _ (parts.0 j d le lt)),
+    (λ d lt.
+        let above : k ≤ (get_or es i d).0 = ltb-false _ _ (parts.1 i d (omega arith) lt) in
+        let other : (get_or es i d).0 ≢ k = differs d lt in omega (arith, above, other)),
+  )
 
   -- a key past the last
   pub place_past_last : (k : ℕ) (es : List (ℕ × X)) (d : ℕ × X) → IsTrue (is_sorted nat_cmp es) → 0 < length es → (get_or es (length es - 1) d).0 < k → IsPlaceFor es k (length es)
-  place_past_last k es d h some last = (omega arith, (λ j e le lt.
-      let up : (get_or es j e).0 ≤ (get_or es (length es - 1) e).0 = rising es h j (length es - 1) e (omega arith) (omega arith) in
-      let same : get_or es (length es - 1) e ≡ get_or es (length es - 1) d = get_or_default es (length es - 1) e d (omega arith) in
-      let key : (get_or es (length es - 1) e).0 ≡ (get_or es (length es - 1) d).0 = ap (λ (p : ℕ × X). p.0) same in
-      omega (arith, up, key, last)), (λ e lt. absurd (omega arith)))
+  place_past_last k es d h some last = (
+    omega arith,
+    (λ j e le lt.
+        let up : (get_or es j e).0 ≤ (get_or es (length es - 1) e).0 = rising es h j (length es - 1) e (omega arith) (omega arith) in
+        let same : get_or es (length es - 1) e ≡ get_or es (length es - 1) d = get_or_default es (length es - 1) e d (omega arith) in
+        let key : (get_or es (length es - 1) e).0 ≡ (get_or es (length es - 1) d).0 = ap (λ (p : ℕ × X). p.0) same in
+        omega (arith, up, key, last)),
+    (λ e lt. absurd (omega arith)),
+  )
 
   pub view_empty : map.from_sorted {X = X} {R = nat_cmp} [] ≡ map.empty
   view_empty = map.empty_of_len _ (map.len-entries _ ∙ ap length (map.entries-from_sorted nat_cmp [] tt))

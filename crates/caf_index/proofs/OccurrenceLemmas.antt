@@ -1,10 +1,9 @@
 -- The list of a file's words has exactly the words that stand in it.
-use Rattle.std.proofs.Common.{◌≡◌, ℕ, zero, suc, ◌+◌, ◌-◌, ◌<◌, ◌≤◌, Bool, true, false, cond, not, List, [], ◌∷◌, ◌++◌, length, get_or, refl, sym, ap, subst, ◌∙◌, arith}
-use Rattle.std.specs.Prelude.{◌&&◌, ◌||◌, ◌==◌, if◌then◌else◌, IsTrue, All, map, take_while, count_by}
-use Rattle.std.specs.List.{list_any}
-use Rattle.std.specs.Ordering.{nat_cmp, is_eq}
+use Rattle.std.proofs.Common.{◌≡◌, ℕ, zero, suc, ◌+◌, ◌<◌, Bool, true, false, cond, not, List, [], ◌∷◌, ◌++◌, length, refl, sym, ap, subst, ◌∙◌, arith}
+use Rattle.std.specs.Prelude.{◌&&◌, ◌||◌, if◌then◌else◌, IsTrue, All, map, take_while, count_by}
+use Rattle.std.specs.Ordering.{is_eq}
 use Rattle.std.specs.Cmp.{nat_cmp_total, tied_itself}
-use Rattle.std.specs.Cmp.Lexicographic.{slice_cmp, nat_list_cmp_total}
+use Rattle.std.specs.Cmp.Lexicographic.{nat_list_cmp_total}
 use Rattle.std.proofs.lemmas.List.Sums.{take_while-cons, sum_by-cons}
 use Rattle.std.proofs.lemmas.List.Folds.{list_any-append}
 use Rattle.caf_index.specs.Words.{is_word_byte, is_line_end, lower_case, begins_with_word_byte, ends_with_word_byte, StandsWithin, first_word, next_line, words_within}
@@ -66,7 +65,7 @@ first_run_by b bytes true e rest =
       after = rest.after;
       parts = ap (λ bs. b ∷ bs) rest.parts ∙ ap (λ bs. bs ++ rest.after) (sym longer);
       gap = rest.gap;
-      run = subst HasWordBytes (sym longer) (all_more b (take_while is_word_byte bytes) e rest.run)
+      run = subst HasWordBytes (sym longer) (all_more b (take_while is_word_byte bytes) e rest.run);
     }
 first_run_by b bytes false e rest =
     let none : take_while is_word_byte (b ∷ bytes) ≡ [] = take_while-cons is_word_byte b bytes ∙ ap (λ t. cond t (b ∷ take_while is_word_byte bytes) []) e in
@@ -74,7 +73,7 @@ first_run_by b bytes false e rest =
       after = b ∷ bytes;
       parts = ap (λ bs. bs ++ b ∷ bytes) (sym none);
       gap = e;
-      run = subst HasWordBytes (sym none) (λ k d lt. absurd (omega arith))
+      run = subst HasWordBytes (sym none) (λ k d lt. absurd (omega arith));
     }
 
 first_run : (bytes : List ℕ) → FirstRun bytes
@@ -93,17 +92,17 @@ line_behind first b before =
 
 behind : (inside : Bool) (first b : ℕ) (bytes word : List ℕ) (line : ℕ) → StandsWithin (is_word_byte b) (next_line first b) bytes word line → StandsWithin inside first (b ∷ bytes) word line
 behind inside first b bytes word line s = record {
-    before = b ∷ s.before;
-    run = s.run;
-    after = s.after;
-    parts = ap (λ bs. b ∷ bs) s.parts;
-    has_bytes = s.has_bytes;
-    has_word_bytes = s.has_word_bytes;
-    none_before = s.none_before;
-    none_after = s.none_after;
-    is_word = s.is_word;
-    is_line = s.is_line ∙ line_behind first b s.before
-  }
+  before = b ∷ s.before;
+  run = s.run;
+  after = s.after;
+  parts = ap (λ bs. b ∷ bs) s.parts;
+  has_bytes = s.has_bytes;
+  has_word_bytes = s.has_word_bytes;
+  none_before = s.none_before;
+  none_after = s.none_after;
+  is_word = s.is_word;
+  is_line = s.is_line ∙ line_behind first b s.before;
+}
 
 here_from : (first b : ℕ) (bytes word : List ℕ) (line : ℕ) → IsTrue (is_word_byte b) → word ≡ first_word (b ∷ bytes) → line ≡ first → StandsWithin false first (b ∷ bytes) word line
 here_from first b bytes word line h is_first is_here =
@@ -119,7 +118,7 @@ here_from first b bytes word line h is_first is_here =
       none_before = refl;
       none_after = split.gap;
       is_word = is_first;
-      is_line = (let same : line ≡ first + 0 = omega (arith, is_here) in same)
+      is_line = (let same : line ≡ first + 0 = omega (arith, is_here) in same);
     }
 
 -- the words that are listed behind a byte
@@ -143,7 +142,7 @@ pub stands_from_listed : (inside : Bool) (first : ℕ) (bytes word : List ℕ) (
 stands_from_listed inside first [] word line h = cc
 stands_from_listed inside first (b ∷ bytes) word line h =
     listed_cases first b bytes word line (stands_from_listed (is_word_byte b) (next_line first b) bytes word line) inside (is_word_byte b) refl
-        (sym (list_any-append _ (if is_word_byte b && not inside then (first_word (b ∷ bytes), first) ∷ [] else []) (words_within (is_word_byte b) (next_line first b) bytes)) ∙ h)
+    (sym (list_any-append _ (if is_word_byte b && not inside then (first_word (b ∷ bytes), first) ∷ [] else []) (words_within (is_word_byte b) (next_line first b) bytes)) ∙ h)
 
 listed_here : (first : ℕ) (run after word : List ℕ) (line : ℕ) → 0 < length run → HasWordBytes run → begins_with_word_byte after ≡ false → word ≡ map lower_case run → line ≡ first + 0 → IsTrue (is_listed word line (words_within false first (run ++ after)))
 listed_here first [] after word line some all gap is_word is_line = absurd (omega arith)
@@ -167,4 +166,4 @@ listed_at inside first (b ∷ before) run after word line some all outside gap i
 pub listed_from_stands : (inside : Bool) (first : ℕ) (bytes word : List ℕ) (line : ℕ) → StandsWithin inside first bytes word line → IsTrue (is_listed word line (words_within inside first bytes))
 listed_from_stands inside first bytes word line s =
     subst (λ bs. IsTrue (is_listed word line (words_within inside first bs))) (sym s.parts)
-        (listed_at inside first s.before s.run s.after word line s.has_bytes s.has_word_bytes s.none_before s.none_after s.is_word s.is_line)
+    (listed_at inside first s.before s.run s.after word line s.has_bytes s.has_word_bytes s.none_before s.none_after s.is_word s.is_line)

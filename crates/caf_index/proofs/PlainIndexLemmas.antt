@@ -1,5 +1,5 @@
 -- The plain index has exactly the entries that stand in the files.
-use Rattle.std.proofs.Common.{◌≡◌, ℕ, zero, suc, ◌+◌, ◌-◌, ◌<◌, ◌≤◌, Bool, true, false, List, [], ◌∷◌, length, drop, Option, Some, None, refl, sym, ap, subst, ◌∙◌, arith, ◌⊎◌, inl, inr}
+use Rattle.std.proofs.Common.{◌≡◌, ℕ, zero, suc, ◌+◌, ◌-◌, ◌≤◌, Bool, true, false, List, [], ◌∷◌, length, drop, Some, refl, sym, ap, subst, ◌∙◌, arith, ◌⊎◌, inl, inr}
 use Rattle.std.specs.Prelude.{◌&&◌, ◌||◌, IsTrue, slice_get, unwrap_or}
 use Rattle.std.specs.FinMap as finite
 use Rattle.caf_index.specs.Words.{words_of}
@@ -22,12 +22,12 @@ either false b h = inr h
 
 next_file : (bytes : List ℕ) (files : List (List ℕ)) (n : ℕ) (word : List ℕ) (file line : ℕ) → IsInFiles files (n + 1) word file line → IsInFiles (bytes ∷ files) n word file line
 next_file bytes files n word file line r = record {
-    place = suc r.place;
-    bytes = r.bytes;
-    number = (let e : file ≡ n + suc r.place = omega (arith, r.number) in e);
-    is_file = r.is_file;
-    listed = r.listed
-  }
+  place = suc r.place;
+  bytes = r.bytes;
+  number = (let e : file ≡ n + suc r.place = omega (arith, r.number) in e);
+  is_file = r.is_file;
+  listed = r.listed;
+}
 
 this_file : (bytes : List ℕ) (files : List (List ℕ)) (n : ℕ) (word : List ℕ) (file line : ℕ) → IsTrue (same_number file n && is_listed word line (words_of bytes)) → IsInFiles (bytes ∷ files) n word file line
 this_file bytes files n word file line h =
@@ -58,8 +58,8 @@ in_files index n [] word file line place bytes number is_file listed = cc
 in_files index n (b ∷ files) word file line zero bytes number is_file listed =
     let same : file ≡ n = omega (arith, number) in
     kept_in (with_words index n (words_of b)) (n + 1) files word file line
-        (has-with_words index n (words_of b) word file line
-        ∙ or_left _ _ (and_true _ _ (subst (λ k. IsTrue (same_number file k)) same (number_itself file)) (subst (λ bs. IsTrue (is_listed word line (words_of bs))) (sym (same_some b bytes is_file)) listed)))
+    (has-with_words index n (words_of b) word file line
+    ∙ or_left _ _ (and_true _ _ (subst (λ k. IsTrue (same_number file k)) same (number_itself file)) (subst (λ bs. IsTrue (is_listed word line (words_of bs))) (sym (same_some b bytes is_file)) listed)))
 in_files index n (b ∷ files) word file line (suc place) bytes number is_file listed =
     in_files (with_words index n (words_of b)) (n + 1) files word file line place bytes (let e : file ≡ n + 1 + place = omega (arith, number) in e) is_file listed
 
@@ -74,7 +74,7 @@ stands_from_entry files word file line h =
             from_one = omega (arith, r.number);
             bytes = r.bytes;
             is_file = ap (slice_get files) before ∙ r.is_file;
-            stands = stands_from_listed false 1 r.bytes word line r.listed
+            stands = stands_from_listed false 1 r.bytes word line r.listed;
           }
     ]
   where

@@ -1,14 +1,13 @@
 -- Entries in rising order of numbers: where a new one goes, and what is found.
-use Rattle.std.proofs.Common.{◌≡◌, ℕ, zero, suc, ◌+◌, ◌<◌, ◌≤◌, Bool, true, false, cond, List, [], ◌∷◌, ◌++◌, length, get_or, set, take, drop, Option, Some, None, refl, sym, ap, subst, ◌∙◌, arith}
-use Rattle.std.specs.Prelude.{insert, is_some, IsTrue, ◌&&◌}
+use Rattle.std.proofs.Common.{◌≡◌, ℕ, zero, suc, ◌<◌, ◌≤◌, Bool, true, false, cond, List, [], ◌∷◌, length, get_or, set, Some, None, refl, sym, ap, subst, ◌∙◌, arith}
+use Rattle.std.specs.Prelude.{insert, IsTrue, ◌&&◌}
 use Rattle.std.specs.List.{AllWithin}
 use Rattle.std.specs.List.Sorted.{IsNonDecreasingBy}
-use Rattle.std.specs.Ordering.{nat_cmp, is_lt, is_eq, eq_by_cmp}
-use Rattle.std.specs.declared.cmp.Ordering.{Ordering}
+use Rattle.std.specs.Ordering.{nat_cmp, is_lt, is_eq}
 use Rattle.std.specs.declared.cmp.Ordering.TheVariants.{Less, Equal, Greater}
-use Rattle.std.specs.Cmp.{nat_cmp_is, ranked, nat_cmp_total}
-use Rattle.std.specs.FinMap.{FinMap, put, find, is_sorted}
-use Rattle.std.specs.FinMap.Entries.{below_all, by_order, is_sorted-put, length-put, find-put, same_entries}
+use Rattle.std.specs.Cmp.{nat_cmp_is, ranked}
+use Rattle.std.specs.FinMap.{put, find, is_sorted}
+use Rattle.std.specs.FinMap.Entries.{below_all, by_order}
 
 pub first_of : (a b : Bool) → IsTrue (a && b) → IsTrue a
 first_of true b h = refl
@@ -84,7 +83,7 @@ module _ {X : Type 0} where
       let less : Less ≡ nat_cmp k e.0 = nat_cmp_is k e.0 Less (above e (omega arith)) in
       ap (λ r. cond (is_eq r) (Some e.1) (find nat_cmp k es)) (sym less)
       ∙ find-place k es zero (second_of _ _ h) (omega arith) (λ j d _ lt. absurd (omega arith))
-        (λ d lt. let next = below_at e.0 es (first_of _ _ h) 0 d lt in let here = above e (omega arith) in omega (arith, next, here))
+      (λ d lt. let next = below_at e.0 es (first_of _ _ h) 0 d lt in let here = above e (omega arith) in omega (arith, next, here))
   find-place k (e ∷ es) (suc i) h fits below above =
       let greater : Greater ≡ nat_cmp k e.0 = nat_cmp_is k e.0 Greater (below 0 e (omega arith) (omega arith)) in
       ap (λ r. cond (is_eq r) (Some e.1) (find nat_cmp k es)) (sym greater)

@@ -1,11 +1,11 @@
 -- The words of a file, byte by byte.
-use Rattle.std.proofs.Common.{◌≡◌, ℕ, zero, suc, ◌+◌, ◌<◌, ◌≤◌, Bool, true, false, cond, not, List, [], ◌∷◌, ◌++◌, length, get_or, drop, refl, sym, ap, subst, ◌∙◌, arith, append_assoc, append-nil}
-use Rattle.std.specs.Prelude.{map, take_while, ◌&&◌, ◌||◌, ◌==◌, nat_le, if◌then◌else◌}
+use Rattle.std.proofs.Common.{◌≡◌, ℕ, zero, suc, ◌+◌, ◌<◌, true, false, cond, List, [], ◌∷◌, ◌++◌, length, get_or, drop, refl, sym, ap, ◌∙◌, arith, append_assoc, append-nil}
+use Rattle.std.specs.Prelude.{map, take_while, ◌&&◌, ◌==◌, if◌then◌else◌}
 use Rattle.std.proofs.lemmas.List.Sums.{take_while-cons}
 use Rattle.std.proofs.lemmas.Bool.{eqb-true}
-use Rattle.caf_index.specs.Words.{is_word_byte, is_line_end, lower_case, first_word, next_line, words_within, words_of, ended_word}
+use Rattle.caf_index.specs.Words.{is_word_byte, lower_case, first_word, next_line, words_within, ended_word}
 use Rattle.caf_index.specs.Index.{Entries, with_entry}
-use Rattle.caf_index.specs.PlainIndex.{with_words, with_files, plain_index_of}
+use Rattle.caf_index.specs.PlainIndex.{with_words}
 
 -- the words from here on, where the bytes just read end with that part of a word, in lower case
 abbrev pub words_after : List ℕ → ℕ → List ℕ → List (List ℕ × ℕ)
@@ -21,9 +21,9 @@ first_word-gap b bytes h = ap (map lower_case) (take_while-cons is_word_byte b b
 -- a word byte ends no line
 pub word_byte_in_line : (b line : ℕ) → is_word_byte b ≡ true → next_line line b ≡ line
 word_byte_in_line b line h = elim (b == 10) as (λ t. (b == 10) ≡ t → (if t then line + 1 else line) ≡ line) [
-    | true ↦ λ e. let ten : is_word_byte b ≡ false = ap is_word_byte (eqb-true b 10 e) in cc
-    | false ↦ λ e. refl
-  ] refl
+  | true ↦ λ e. let ten : is_word_byte b ≡ false = ap is_word_byte (eqb-true b 10 e) in cc
+  | false ↦ λ e. refl
+] refl
 
 pub words_after-word : (word : List ℕ) (line b : ℕ) (bytes : List ℕ) → is_word_byte b ≡ true → words_after word line (b ∷ bytes) ≡ words_after (word ++ lower_case b ∷ []) line bytes
 words_after-word [] line b bytes h =
@@ -81,6 +81,6 @@ byte_in_gap index index' file word word' line line' b bytes h added emptied next
 -- a byte that ends no line
 pub same_line : (line b : ℕ) → (b ≡ 10 → ⊥) → line ≡ next_line line b
 same_line line b other = elim (b == 10) as (λ t. (b == 10) ≡ t → line ≡ (if t then line + 1 else line)) [
-    | true ↦ λ e. absurd (other (eqb-true b 10 e))
-    | false ↦ λ e. refl
-  ] refl
+  | true ↦ λ e. absurd (other (eqb-true b 10 e))
+  | false ↦ λ e. refl
+] refl

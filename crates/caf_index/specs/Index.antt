@@ -1,6 +1,6 @@
 -- An index as a value: a finite map from words to finite maps from file numbers to sets of line
 -- numbers. A set is a finite map with nothing at each key.
-use Rattle.std.specs.Prelude.{◌≡◌, ℕ, ◌+◌, Bool, List, [], ◌∷◌, String, string_bytes, sum_by, unwrap_or, IsTrue}
+use Rattle.std.specs.Prelude.{ℕ, Bool, List, [], ◌∷◌, String, string_bytes, sum_by, unwrap_or, IsTrue}
 use Rattle.std.specs.Ordering.{nat_cmp}
 use Rattle.std.specs.Cmp.Lexicographic.{slice_cmp}
 use Rattle.std.specs.FinMap as map

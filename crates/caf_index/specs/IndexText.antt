@@ -1,7 +1,7 @@
 -- The text of an index, for the names of the files.
 use Rattle.std.specs.Prelude.{ℕ, zero, suc, List, [], ◌∷◌, ◌++◌, Option, None, Some, flat_map, decimal, slice_get}
 use Rattle.std.specs.FinMap as map
-use Rattle.caf_index.specs.Index.{Entries, Files, Lines}
+use Rattle.caf_index.specs.Index.{Entries, Files}
 
 -- the name of the file of that number; files are numbered from 1
 abbrev pub name_of : List (List ℕ) → ℕ → Option (List ℕ)

@@ -11,6 +11,8 @@
 mod index;
 mod number_map;
 mod plain;
+#[cfg(test)]
+mod tests;
 mod text;
 mod words;
 

@@ -71,7 +71,12 @@ impl Lines {
 
 impl Files {
     /// Puts the line of that file in and tells whether it is new there.
-    pub(crate) fn add_in_file(&mut self, alloc: Global, file: u64, line: u64) -> Result<bool, AllocError>
+    pub(crate) fn add_in_file(
+        &mut self,
+        alloc: Global,
+        file: u64,
+        line: u64,
+    ) -> Result<bool, AllocError>
         ensures added { OnOk result (self.new ≡ with_line self.old file line) }
         ensures is_new { IfOk result (λ is_new. is_new ≡ not (map.contains_key (lines_in self.old file) line)) }
         ensures kept { OnErr result (self.new ≡ self.old) }

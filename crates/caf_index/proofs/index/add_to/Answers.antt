@@ -1,9 +1,9 @@
-use Rattle.std.proofs.Common.{◌≡◌, Some, None, not, ap, sym, subst, ◌∙◌, rules, string_bytes}
+use Rattle.std.proofs.Common.{Some, not, ap, sym, ◌∙◌, rules, string_bytes}
 use Rattle.std.specs.Prelude.{unwrap_or}
 use Rattle.std.specs.Cmp.Lexicographic.{nat_list_cmp_total}
 use Rattle.std.specs.FinMap as map
 use Rattle.std.proofs.lemmas.Map.Text.{hash_map_updates_text}
-use Rattle.caf_index.specs.Index.{index_of_rows, with_line, lines_in, files_of}
+use Rattle.caf_index.specs.Index.{index_of_rows, with_line, lines_in}
 use Rattle.caf_index.proofs.NumberMapLemmas.{insert_present}
 use Rattle.caf_index.proofs.IndexLemmas.{on_err, words_apart, get-rows, rows-updated}
 use Rattle.caf_index.proofs.index.add_to.Goals as goal
@@ -40,7 +40,7 @@ returns-in_ok-insert-in-None-clause-added c =
     put ∙ ap (λ m. map.insert (index_of_rows m.entries) (string_bytes key) files) c.get_mut.follows.holds-at-none
     ∙ ap (λ bytes. map.insert (index_of_rows old.entries) bytes files) c.in_ok-key-in-None.ensures.ok
     ∙ ap (map.insert (index_of_rows old.entries) c.args.word.now)
-        (c.in_ok-is_new-in-None.ensures.added ∙ ap (λ m. with_line m c.args.file c.args.line) c.new-files.ensures ∙ ap (λ o. with_line (unwrap_or o map.empty) c.args.file c.args.line) (sym here))
+    (c.in_ok-is_new-in-None.ensures.added ∙ ap (λ m. with_line m c.args.file c.args.line) c.new-files.ensures ∙ ap (λ o. with_line (unwrap_or o map.empty) c.args.file c.args.line) (sym here))
 
 pub returns-in_ok-insert-in-None-clause-is_new : goal.returns-in_ok-insert-in-None-clause-is_new
 returns-in_ok-insert-in-None-clause-is_new c =

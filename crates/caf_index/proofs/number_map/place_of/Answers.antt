@@ -1,4 +1,4 @@
-use Rattle.std.proofs.Common.{◌≡◌, ℕ, ◌<◌, ◌-◌, length, get_or, sym, ap, subst, arith}
+use Rattle.std.proofs.Common.{◌<◌, subst, arith}
 use Rattle.caf_index.proofs.NumberMapLemmas.{place_past_last}
 use Rattle.caf_index.proofs.number_map.place_of.Goals as goal
 

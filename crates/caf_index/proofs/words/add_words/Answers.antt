@@ -1,5 +1,4 @@
-use Rattle.std.proofs.Common.{◌≡◌, ℕ, ◌+◌, ◌<◌, ◌≤◌, ◌∷◌, [], ◌++◌, Bool, true, false, cond, get_or, drop, refl, ap, sym, ◌∙◌, arith, string_bytes}
-use Rattle.std.specs.Prelude.{◌==◌}
+use Rattle.std.proofs.Common.{◌≡◌, ◌+◌, ◌∷◌, [], ◌++◌, get_or, drop, ap, sym, ◌∙◌, arith, string_bytes}
 use Rattle.caf_index.specs.Words.{words_of, next_line}
 use Rattle.caf_index.specs.PlainIndex.{with_words}
 use Rattle.caf_index.proofs.WordLemmas.{words_after, drop_here, byte_in_word, byte_in_gap, same_line}
@@ -14,7 +13,7 @@ loop-byte-preserved c =
     let rest = drop (at + 1) bytes in
     let here : drop at bytes ≡ b ∷ rest = drop_here bytes at c.loop-byte-test.true in
     let before : with_words c.loop-byte.index c.args.file (words_after (string_bytes c.loop-byte.word) c.loop-byte.line (b ∷ rest)) ≡ with_words c.args.index.now c.args.file (words_of bytes) =
-        ap (λ bs. with_words c.loop-byte.index c.args.file (words_after (string_bytes c.loop-byte.word) c.loop-byte.line bs)) (sym here) ∙ c.loop-byte.invariant.words in
+    ap (λ bs. with_words c.loop-byte.index c.args.file (words_after (string_bytes c.loop-byte.word) c.loop-byte.line bs)) (sym here) ∙ c.loop-byte.invariant.words in
     record {
       words = elim c.if-is_word_byte.branch [
         | then-is_word_byte+in_ok-push w ↦ byte_in_word c.loop-byte.index _ c.args.file (string_bytes c.loop-byte.word) _ c.loop-byte.line _ b rest (sym c.is_word_byte.ensures ∙ w.if-is_word_byte.true) w.index-is w.line-is
@@ -28,5 +27,5 @@ loop-byte-preserved c =
         | then-is_word_byte+in_ok-push w ↦ omega (arith, c.loop-byte.invariant.counted, w.line-is)
         | else-is_word_byte+in_ok-end_word+then-byte-eq10 w ↦ omega (arith, c.loop-byte.invariant.counted, w.line-is)
         | else-is_word_byte+in_ok-end_word+else-byte-eq10 w ↦ omega (arith, c.loop-byte.invariant.counted, w.line-is)
-      ]
+      ];
     }

@@ -7,5 +7,5 @@ use Rattle.caf_index.proofs.words.add_words.Given as goal
 abbrev pub invariant-loop-byte : goal.invariant-loop-byte
 invariant-loop-byte l = record {
   words : with_words l.index l.file (words_after (string_bytes l.word) l.line (drop l.byte-index l.bytes)) ≡ with_words l.initial.index l.file (words_of l.bytes);
-  counted : l.line ≤ l.byte-index + 1
+  counted : l.line ≤ l.byte-index + 1;
 }

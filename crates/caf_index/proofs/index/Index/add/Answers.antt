@@ -1,6 +1,5 @@
-use Rattle.std.proofs.Common.{◌≡◌, ◌+◌, cond, not, ap, sym, ◌∙◌, arith}
-use Rattle.caf_index.specs.Index.{entry_count, index_of_rows, has_entry, with_entry}
-use Rattle.caf_index.proofs.CountLemmas.{entry_count-with_entry, count-new, count-old}
+use Rattle.std.proofs.Common.{sym, ◌∙◌}
+use Rattle.caf_index.proofs.CountLemmas.{count-new, count-old}
 use Rattle.caf_index.proofs.index.Index.add.Goals as goal
 
 pub invariant_of-self-then-is_new : goal.invariant_of-self-then-is_new

@@ -10,7 +10,7 @@ use Rattle.caf_index.proofs.number_map.Lines.add.Goals as goal
 pub invariant_of-self-in-Err : goal.invariant_of-self-in-Err
 invariant_of-self-in-Err c =
     sorted-placed c.args.line tt c.self.inside.entries.items _ c.in-Err.place c.self.invariant
-        (subst (λ xs. IsPlaceFor xs c.args.line c.in-Err.place) c.as_slice.ensures.value c.in-Err.ensures.absent) c.in_ok-insert-in-Err.ensures.items
+    (subst (λ xs. IsPlaceFor xs c.args.line c.in-Err.place) c.as_slice.ensures.value c.in-Err.ensures.absent) c.in_ok-insert-in-Err.ensures.items
 
 pub returns-in-Ok-clause-added : goal.returns-in-Ok-clause-added
 returns-in-Ok-clause-added c =
@@ -27,11 +27,11 @@ returns-in-Ok-clause-is_new c =
 pub returns-in_ok-insert-in-Err-clause-added : goal.returns-in_ok-insert-in-Err-clause-added
 returns-in_ok-insert-in-Err-clause-added c =
     view-placed c.args.line tt c.self.inside.entries.items _ c.in-Err.place c.self.invariant
-        (subst (λ xs. IsPlaceFor xs c.args.line c.in-Err.place) c.as_slice.ensures.value c.in-Err.ensures.absent) c.in_ok-insert-in-Err.ensures.items
+    (subst (λ xs. IsPlaceFor xs c.args.line c.in-Err.place) c.as_slice.ensures.value c.in-Err.ensures.absent) c.in_ok-insert-in-Err.ensures.items
     ∙ ap (λ m. map.insert m c.args.line tt) c.self.view_is
 
 pub returns-in_ok-insert-in-Err-clause-is_new : goal.returns-in_ok-insert-in-Err-clause-is_new
 returns-in_ok-insert-in-Err-clause-is_new c =
     let absent = get-placed c.args.line c.self.inside.entries.items c.in-Err.place c.self.invariant
-        (subst (λ xs. IsPlaceFor xs c.args.line c.in-Err.place) c.as_slice.ensures.value c.in-Err.ensures.absent) in
+    (subst (λ xs. IsPlaceFor xs c.args.line c.in-Err.place) c.as_slice.ensures.value c.in-Err.ensures.absent) in
     sym (ap (λ o. not (is_some o)) (ap (λ m. map.get m c.args.line) (sym c.self.view_is) ∙ absent))
