@@ -1,5 +1,5 @@
 -- What files in memory show.
-use Rattle.std.specs.Prelude.{ℕ, List, map, string_bytes, is_some, Bool}
+use Rattle.std.specs.Prelude.{ℕ, List, map, string_bytes, Bool}
 use Rattle.std.specs.Ordering.{nat_cmp}
 use Rattle.std.specs.Option.{option_map_or}
 use Rattle.std.specs.BTreeMap.{get_by_text}

@@ -1,4 +1,4 @@
-use Rattle.std.proofs.Common.{◌≡◌, sym, rules, []}
+use Rattle.std.proofs.Common.{sym, rules, []}
 use Rattle.std.proofs.lemmas.List.{append-nil}
 use Rattle.caf_io.specs.Sink.{AddsPrefix}
 use Rattle.caf_io.proofs.WritingLemmas.{both_parts, one_more, part_of_it}
@@ -6,13 +6,13 @@ use Rattle.caf_io.proofs.writing.write_all.Goals as goal
 
 pub returns-in_err-write-clause-part : goal.returns-in_err-write-clause-part
 returns-in_err-write-clause-part g c =
-    let cut = both_parts _ c.loop-rest.rest.now c.split_at.result.0.now c.split_at.result.1.now c.split_at.ensures.front c.split_at.ensures.back in
+    let cut = both_parts 65536 c.loop-rest.rest.now c.split_at.result.0.now c.split_at.result.1.now c.split_at.ensures.front c.split_at.ensures.back in
     let part = part_of_it _ _ _ _ _ _ _ c.loop-rest.invariant.0 cut c.in_err-write.ensures.part in
     search rules
 
 pub loop-rest-preserved : goal.loop-rest-preserved
 loop-rest-preserved g c =
-    let cut = both_parts _ c.loop-rest.rest.now c.split_at.result.0.now c.split_at.result.1.now c.split_at.ensures.front c.split_at.ensures.back in
+    let cut = both_parts 65536 c.loop-rest.rest.now c.split_at.result.0.now c.split_at.result.1.now c.split_at.ensures.front c.split_at.ensures.back in
     let more = one_more _ _ _ _ _ _ _ c.loop-rest.invariant.0 cut c.in_ok-write.ensures.whole in
     search rules
 

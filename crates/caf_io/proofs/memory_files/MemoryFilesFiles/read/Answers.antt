@@ -1,4 +1,4 @@
-use Rattle.std.proofs.Common.{◌≡◌, ◌∙◌, ap, sym, arith, rules, Some, map}
+use Rattle.std.proofs.Common.{◌∙◌, ap, sym, arith, rules, Some, map}
 use Rattle.std.specs.FinMap as finite
 use Rattle.std.proofs.lemmas.Map.Text.{text_keys}
 use Rattle.caf_io.specs.MemoryFiles.{bytes_in}
