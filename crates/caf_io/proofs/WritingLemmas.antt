@@ -1,6 +1,6 @@
 -- A text that is written in pieces.
-use Rattle.std.proofs.Common.{◌≡◌, ℕ, ◌+◌, ◌≤◌, List, [], ◌++◌, length, take, Option, None, Some, refl, sym, ap, ◌∙◌, arith}
-use Rattle.std.proofs.lemmas.List.{append_assoc, append-nil, length-append, take-append-le}
+use Rattle.std.proofs.Common.{◌≡◌, ℕ, ◌+◌, List, [], ◌++◌, length, take, drop, Option, None, Some, refl, sym, ap, ◌∙◌, arith}
+use Rattle.std.proofs.lemmas.List.{append_assoc, append-nil, length-append, take-append-le, take-append-drop}
 use Rattle.std.proofs.Math.Seq.{take-append-add}
 use Rattle.caf_io.specs.Sink.{added, AddsPrefix}
 
@@ -11,6 +11,11 @@ added-nil (Some bytes) = ap Some (append-nil bytes)
 added-added : (before : Option (List ℕ)) (first then : List ℕ) → added (added before first) then ≡ added before (first ++ then)
 added-added None first then = refl
 added-added (Some bytes) first then = ap Some (append_assoc bytes first then)
+
+-- what was split off, and what was left
+pub both_parts : (at : ℕ) (whole piece later : List ℕ) → piece ≡ take at whole → later ≡ drop at whole → whole ≡ piece ++ later
+both_parts at whole piece later front back =
+    sym (ap (λ xs. xs ++ later) front ∙ ap (λ ys. take at whole ++ ys) back ∙ take-append-drop at whole)
 
 -- the front of the text was added, and `rest` is what is left of it
 pub record IsWritten (before now : Option (List ℕ)) (text rest : List ℕ) : Type 0 where

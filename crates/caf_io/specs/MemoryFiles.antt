@@ -1,5 +1,5 @@
 -- What files in memory show.
-use Rattle.std.specs.Prelude.{ℕ, List, map, string_bytes, is_some, Bool}
+use Rattle.std.specs.Prelude.{◌≡◌, ◌⊎◌, IsNone, ℕ, List, map, string_bytes, Bool}
 use Rattle.std.specs.Ordering.{nat_cmp}
 use Rattle.std.specs.Option.{option_map_or}
 use Rattle.std.specs.BTreeMap.{get_by_text}
@@ -28,3 +28,7 @@ call_count files = files.calls
 -- whether the call of this number is to fail
 abbrev pub fails_at : MemoryFiles → (call : ℕ) → Bool
 fails_at files call = contains nat_cmp files.failing call
+
+-- two names that have one count: they are the same, or both absent
+abbrev pub SharesCount : MemoryFiles → (name other : List ℕ) → Type 0
+SharesCount files name other = (name ≡ other) ⊎ (IsNone (get_by_text files.files name) × IsNone (get_by_text files.files other))

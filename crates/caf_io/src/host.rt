@@ -1,4 +1,4 @@
-ghost use Rattle.std.specs.Prelude.{◌≡◌, ◌≤◌, length, None, IfOk};
+ghost use Rattle.std.specs.Prelude.{◌≡◌, ℕ, ◌≤◌, List, length, None, IfOk};
 
 use crate::{Failed, Files, Sink};
 use std::alloc::Global;
@@ -27,7 +27,7 @@ struct OpenFile<F> {
 impl<R: rt::Files + Drop> HostFiles<R> {
     /// The host's files, with no fault yet. Nothing is opened.
     pub fn new(rt: R, alloc: Global) -> HostFiles<R>
-        ensures { result.faults ≡ 0 }
+        ensures { (name : List ℕ) → ⟦<HostFiles<R> as Files>⟧.faults result name ≡ 0 }
     {
         HostFiles {
             rt,
@@ -39,7 +39,7 @@ impl<R: rt::Files + Drop> HostFiles<R> {
 
     /// How many reads failed; it stops at 2^64 - 1.
     pub fn faults(&self) -> u64
-        ensures { result ≡ self.now.faults }
+        ensures { (name : List ℕ) → result ≡ ⟦<HostFiles<R> as Files>⟧.faults self.now name }
     {
         self.faults
     }
@@ -116,14 +116,14 @@ pub struct HostSink<P> {
 impl<P: Print + Drop> HostSink<P> {
     /// Standard output, with no fault yet.
     pub fn new(rt: P) -> HostSink<P>
-        ensures { result.faults ≡ 0 }
+        ensures { ⟦<HostSink<P> as Sink>⟧.faults result ≡ 0 }
     {
         HostSink { rt, faults: 0 }
     }
 
     /// How many writes failed; it stops at 2^64 - 1.
     pub fn faults(&self) -> u64
-        ensures { result ≡ self.now.faults }
+        ensures { result ≡ ⟦<HostSink<P> as Sink>⟧.faults self.now }
     {
         self.faults
     }

@@ -1,8 +1,8 @@
-ghost use Rattle.std.specs.Prelude.{◌≡◌, ℕ, ◌<◌, ◌≤◌, ◌↔◌, take, length, Some, OnOk, OnErr, IfOk};
+ghost use Rattle.std.specs.Prelude.{◌≡◌, ℕ, ◌<◌, ◌≤◌, ◌↔◌, List, take, length, Some, false, IsTrue, IsSome, IsErr, IfSome, OnOk, OnErr, IfOk};
 ghost use Rattle.std.specs.FinMap as finite;
-ghost use Rattle.caf_io.specs.Faults.{next_count};
+ghost use Rattle.caf_io.specs.Faults.{next_count, Rose};
 ghost use Rattle.caf_io.specs.Files.{AreNext};
-ghost use Rattle.caf_io.specs.MemoryFiles.{bytes_in, content, fault_count, call_count, fails_at};
+ghost use Rattle.caf_io.specs.MemoryFiles.{bytes_in, content, fault_count, call_count, fails_at, SharesCount};
 
 use crate::{Failed, Files};
 use std::alloc::{AllocError, Global};
@@ -32,6 +32,7 @@ impl MemoryFiles {
         ensures empty { content result ≡ finite.empty }
         ensures faults { (name : _) → fault_count result name ≡ 0 }
         ensures calls { call_count result ≡ 0 }
+        ensures none_fails { (call : ℕ) → fails_at result call ≡ false }
     {
         MemoryFiles {
             files: BTreeMap::new(alloc),
@@ -55,6 +56,7 @@ impl MemoryFiles {
 
     /// The `call`-th call of `read`, counted from 1, is to fail.
     pub fn fail_at(&mut self, call: u64) -> Result<(), AllocError>
+        ensures planned { OnOk result (IsTrue (fails_at self.new call)) }
         ensures same_content { content self.new ≡ content self.old }
     {
         self.failing.insert(call)?;
@@ -83,6 +85,7 @@ impl MemoryFile {
         ensures within { IfOk result (λ count. count ≤ length buffer.new) }
         ensures bytes { IfOk result (λ count. AreNext (bytes_in self.old) from (take count buffer.new)) }
         ensures end { IfOk result (λ count. (count ≡ 0) ↔ (length (bytes_in self.old) ≤ from)) }
+        ensures obeys { IsTrue fails → IsErr result }
         ensures no_fault { OnOk result (self.new.faults ≡ self.old.faults) }
         ensures fault { OnErr result (self.new.faults ≡ next_count self.old.faults) }
         ensures never_falls { self.old.faults ≤ self.new.faults }
@@ -114,7 +117,24 @@ impl Files for MemoryFiles {
 
     ghost faults = { fault_count };
 
-    fn read(&mut self, name: &str, from: u64, buffer: &mut [u8]) -> Result<u64, Failed> {
+    fn read(&mut self, name: &str, from: u64, buffer: &mut [u8]) -> Result<u64, Failed>
+        requires { 0 < length buffer.old }
+        ensures within { IfOk result (λ count. count ≤ length buffer.new) }
+        ensures bytes { IfOk result (λ count. IfSome (finite.get (content self.old) name.now)
+            (λ file. AreNext file from (take count buffer.new))) }
+        ensures end { IfOk result (λ count. IfSome (finite.get (content self.old) name.now)
+            (λ file. (count ≡ 0) ↔ (length file ≤ from))) }
+        ensures there { OnOk result (IsSome (finite.get (content self.old) name.now)) }
+        ensures cause { OnErr result (Rose (fault_count self.old name.now) (fault_count self.new name.now)) }
+        ensures same_content { content self.new ≡ content self.old }
+        ensures none_falls { (other : List ℕ) → fault_count self.old other ≤ fault_count self.new other }
+
+        // It raises no other count than that of this name, and obeys its plan.
+        ensures others { (other : List ℕ) → ¬ SharesCount self.old name.now other
+            → fault_count self.new other ≡ fault_count self.old other }
+        ensures obeys { IsTrue (fails_at self.old (next_count (call_count self.old))) → IsErr result }
+        ensures counts { call_count self.new ≡ next_count (call_count self.old) }
+    {
         self.calls = self.calls.saturating_add(1);
         let fails = self.failing.contains(&self.calls);
         match self.files.get_mut(name) {

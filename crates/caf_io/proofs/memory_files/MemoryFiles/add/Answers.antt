@@ -1,4 +1,4 @@
-use Rattle.std.proofs.Common.{◌≡◌, ◌∙◌, ap, sym, string_bytes}
+use Rattle.std.proofs.Common.{◌∙◌, ap, string_bytes}
 use Rattle.std.specs.FinMap as finite
 use Rattle.caf_io.specs.MemoryFiles.{bytes_in, content}
 use Rattle.caf_io.proofs.ContentLemmas.{by_name-insert}
