@@ -1,0 +1,4 @@
+pub mod CountLemmas
+pub mod LoopLemmas
+pub mod PackingLemmas
+pub mod SpellingLemmas
