@@ -1,5 +1,5 @@
 -- Bytes packed into words are read again, and what is read is packed so.
-use Rattle.std.proofs.Common.{◌≡◌, ℕ, zero, suc, ◌+◌, ◌*◌, ◌/◌, ◌^◌, ◌<◌, ◌≤◌, Bool, true, false, cond, eqb, ltb, List, [], ◌∷◌, ◌++◌, length, get_or, take, drop, Result, Ok, Err, refl, sym, ap, subst, ◌∙◌, arith}
+use Rattle.std.proofs.Common.{◌≡◌, ℕ, zero, suc, ◌+◌, ◌*◌, ◌/◌, ◌^◌, ◌<◌, ◌≤◌, Bool, true, false, cond, eqb, ltb, List, [], ◌∷◌, ◌++◌, length, get_or, take, drop, Fits, Result, Ok, Err, refl, sym, ap, subst, ◌∙◌, arith}
 use Rattle.std.specs.Int.{w64, from_le_bytes, to_le_bytes}
 use Rattle.std.proofs.lemmas.Bool.{le-ltb, ltb-false}
 use Rattle.std.proofs.lemmas.List.{take_at, drop_at, take-append-drop, length-append, length-take, length-drop, get_or-drop}
@@ -162,3 +162,8 @@ packed_more [] h = absurd (h refl)
 packed_more (b ∷ bs) h =
     let k : words_for (length (b ∷ bs)) ≡ suc (words_for (length (drop 8 (b ∷ bs)))) = omega (arith, length-drop 8 (b ∷ bs)) in
     rw k refl
+
+-- the words of a slice
+pub words_at : (ws : List ℕ) → ((i : ℕ) → Fits w64 (get_or ws i 0)) → AreWords ws
+words_at [] h = tt
+words_at (w ∷ ws) h = (let f = h 0 in omega arith, words_at ws (λ i. h (suc i)))

@@ -14,17 +14,17 @@ use Rattle.caf_words.specs.Spelling.{words_for, packed, packed_in, bit, AreBytes
 use Rattle.caf_words.specs.Reading.{Got, ◌>>=◌, first_of, taken, one_word, unit_in, flag_in, place_in, bytes_at, unpacked, text_at, some_bytes_at, then_more, many, list_at, fields_after, object_at, reading, each_reading}
 use Rattle.caf_words.proofs.PackingLemmas.{AreWords, unpack_sound, unpack_again, Unpacks}
 
-bind_ok : {A B : Type 0} (r : Result A ℕ) (f : A → Result B ℕ) (y : B) → (r >>= f) ≡ Ok y → (x : A) × (r ≡ Ok x) × (f x ≡ Ok y)
+pub bind_ok : {A B : Type 0} (r : Result A ℕ) (f : A → Result B ℕ) (y : B) → (r >>= f) ≡ Ok y → (x : A) × (r ≡ Ok x) × (f x ≡ Ok y)
 bind_ok (Ok x) f y e = (x, refl, e)
 bind_ok (Err d) f y e = absurd cc
 
-abbrev got : {D : Type 0} → D → List ℕ → Got D
+abbrev pub got : {D : Type 0} → D → List ℕ → Got D
 got d ws = Ok (d, ws)
 
-abbrev done : {A : Type 0} → A → Result A ℕ
+abbrev pub done : {A : Type 0} → A → Result A ℕ
 done x = Ok x
 
-ok_is : {A : Type 0} (x y : A) → done x ≡ done y → x ≡ y
+pub ok_is : {A : Type 0} (x y : A) → done x ≡ done y → x ≡ y
 ok_is x y e = cc
 
 -- what was taken from the front of words
@@ -34,10 +34,10 @@ pub record Takes {D : Type 0} (S : D → List ℕ → Type 0) (ws : List ℕ) (d
   pub parts : ws ≡ front ++ rest
   pub rest_words : AreWords rest
 
-abbrev Sound : {D : Type 0} → (D → List ℕ → Type 0) → (List ℕ → Got D) → Type 0
+abbrev pub Sound : {D : Type 0} → (D → List ℕ → Type 0) → (List ℕ → Got D) → Type 0
 Sound {D} S read = (ws : List ℕ) (d : D) (rest : List ℕ) → AreWords ws → read ws ≡ Ok (d, rest) → Takes S ws d rest
 
-abbrev Again : {D : Type 0} → (D → List ℕ → Type 0) → (List ℕ → Got D) → Type 0
+abbrev pub Again : {D : Type 0} → (D → List ℕ → Type 0) → (List ℕ → Got D) → Type 0
 Again {D} S read = (d : D) (front rest : List ℕ) → S d front → read (front ++ rest) ≡ Ok (d, rest)
 
 -- ---- one word
@@ -114,7 +114,7 @@ abbrev Several : (Datum → List ℕ → Type 0) → ℕ → Data → List ℕ �
 Several S n ds ws = (count ds ≡ n) × EachSpells S ds ws
 
 -- one and then others
-more_sound : (S : Datum → List ℕ → Type 0) (T : Data → List ℕ → Type 0) (U : Data → List ℕ → Type 0) (read : List ℕ → Got Datum) (others : List ℕ → Got Data)
+pub more_sound : (S : Datum → List ℕ → Type 0) (T : Data → List ℕ → Type 0) (U : Data → List ℕ → Type 0) (read : List ℕ → Got Datum) (others : List ℕ → Got Data)
     → Sound S read → Sound T others → ((d : Datum) (ds : Data) (a b : List ℕ) → S d a → T ds b → U (more d ds) (a ++ b)) → Sound U (λ ws. then_more (read ws) others)
 more_sound S T U read others s t joins ws ds rest h e =
     let b = bind_ok (read ws) (λ x. others x.1 >>= λ y. Ok (more x.0 y.0, y.1)) (ds, rest) e in
@@ -136,7 +136,7 @@ many_sound : (S : Datum → List ℕ → Type 0) (read : List ℕ → Got Datum)
 many_sound S read s zero = no_more_sound S read
 many_sound S read s (suc n) = more_sound S (Several S n) (Several S (suc n)) read (many read n) s (many_sound S read s n) (λ d ds a b p q. (omega (arith, q.0), (a, b, p, q.1, refl)))
 
-more_again : (d : Datum) (ds : Data) (a b rest : List ℕ) (read : List ℕ → Got Datum) (others : List ℕ → Got Data)
+pub more_again : (d : Datum) (ds : Data) (a b rest : List ℕ) (read : List ℕ → Got Datum) (others : List ℕ → Got Data)
     → read (a ++ (b ++ rest)) ≡ Ok (d, b ++ rest) → others (b ++ rest) ≡ Ok (ds, rest) → then_more (read ((a ++ b) ++ rest)) others ≡ Ok (more d ds, rest)
 more_again d ds a b rest read others p q = rw (append_assoc a b rest, p, q) refl
 
@@ -229,10 +229,10 @@ list_again S read g ds front rest s = rw (many_again S read g ds front rest s) r
 object_again : (ps : Parts) → Again (PartsSpell ps) (each_reading ps) → (ds : Data) (front rest : List ℕ) → PartsSpell ps ds front → object_at (count_parts ps) (each_reading ps) ((count ds ∷ front) ++ rest) ≡ Ok (an_object ds, rest)
 object_again ps g ds front rest s = rw (eq-eqb (count ds) (count_parts ps) (parts_count ps ds front s), g ds front rest s) refl
 
-abbrev pair : Data → List ℕ → Data × List ℕ
+abbrev pub pair : Data → List ℕ → Data × List ℕ
 pair ds ws = (ds, ws)
 
-pair_is : {x y : Data} {a b : List ℕ} → x ≡ y → a ≡ b → pair y b ≡ pair x a
+pub pair_is : {x y : Data} {a b : List ℕ} → x ≡ y → a ≡ b → pair y b ≡ pair x a
 pair_is p q = cc
 
 mutual

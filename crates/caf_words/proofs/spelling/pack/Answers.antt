@@ -16,5 +16,5 @@ loop-rest-preserved c =
     let some : c.loop-rest.rest.now ≡ [] → ⊥ = search rules in
     more c.loop-rest.words.items c.loop-rest.rest.now c.split_at.result.1.now _ c.push.new.words.items some
       (c.split_at.ensures.back ∙ rw c.min.ensures (cut c.loop-rest.rest.now))
-      (c.in_ok-push.ensures ∙ ap (λ w. c.loop-rest.words.items ++ w ∷ []) c.cell.ensures)
+      (c.in_ok-push.ensures.added ∙ ap (λ w. c.loop-rest.words.items ++ w ∷ []) c.cell.ensures)
       c.loop-rest.invariant
