@@ -1,5 +1,5 @@
 -- Lengths of lists of parts and values.
-use Rattle.std.proofs.Common.{◌≡◌, Ok, Err, eq-eqb, ℕ, zero, suc, ◌+◌, ◌≤◌, Bool, true, false, eqb, List, [], ◌∷◌, length, map, drop, refl, sym, ap, ◌∙◌, arith, get_or, ◌<◌}
+use Rattle.std.proofs.Common.{◌≡◌, Ok, Err, eq-eqb, ℕ, zero, suc, ◌+◌, ◌≤◌, false, eqb, List, [], ◌∷◌, length, map, drop, refl, sym, ap, ◌∙◌, arith, get_or, ◌<◌}
 use Rattle.std.proofs.lemmas.List.{drop_all, drop_more}
 use Rattle.std.proofs.lemmas.Bool.Decides.{nat_tests}
 use Rattle.std.proofs.lemmas.Bool.{ne_eqb}
@@ -40,7 +40,6 @@ object_wrong fs ws rest w first other = rw (first, count_fields fs, ne_eqb w (le
 pub object_right : (fs : List Field) (ws rest : List ℕ) (w : ℕ) → first_of ws ≡ Ok (w, rest) → w ≡ length fs → object_at (count_parts (parts fs)) (each_reading (parts fs)) ws ≡ (each_reading (parts fs) rest >>= λ x. Ok (an_object x.0, x.1))
 object_right fs ws rest w first same = rw (first, count_fields fs, eq-eqb w (length fs) same) refl
 
-
 pub field_is : (f : Field) → (field_view f).1 ≡ form f.shape
 field_is f = ap (λ (p : List ℕ × Form). p.1) (fold_out-Field Form (List ℕ × Form) form_step field_step f)
 
@@ -48,7 +47,7 @@ pub fields_more : (fs : List Field) (i : ℕ) (f : Field) (ws : List ℕ) → i 
 fields_more fs i f ws lt is =
     let e : drop i fs ≡ f ∷ drop (i + 1) fs = drop_more fs i f lt ∙ ap (λ (g : Field). g ∷ drop (i + 1) fs) (sym is) in
     ap (λ (gs : List Field). each_reading (parts gs) ws) e
-      ∙ ap (λ (g : Form). then_more (reading g ws) (each_reading (parts (drop (i + 1) fs)))) (field_is f)
+    ∙ ap (λ (g : Form). then_more (reading g ws) (each_reading (parts (drop (i + 1) fs)))) (field_is f)
 
 pub count_values : (vs : List Value) → count (data_of (map datum vs)) ≡ length vs
 count_values [] = refl

@@ -1,5 +1,5 @@
 -- Reading values one after the other, as a loop does: of whatever input, with whatever fault.
-use Rattle.std.proofs.Common.{◌≡◌, ℕ, suc, ◌-◌, ◌+◌, ◌<◌, List, [], ◌∷◌, ◌++◌, Result, Ok, Err, refl, sym, ap, ◌∙◌, arith}
+use Rattle.std.proofs.Common.{◌≡◌, ℕ, suc, ◌-◌, ◌+◌, ◌<◌, List, [], ◌∷◌, ◌++◌, Ok, Err, refl, sym, ap, ◌∙◌, arith}
 use Rattle.caf_words.specs.Datum.{Datum, Data, more, front_of, data_of}
 use Rattle.caf_words.specs.Reading.{Reads, Got, ◌>>=◌, then_more, many}
 use Rattle.caf_words.specs.Answer.{Fails}

@@ -1,5 +1,5 @@
 -- Bytes packed into words are read again, and what is read is packed so.
-use Rattle.std.proofs.Common.{◌≡◌, ℕ, zero, suc, ◌+◌, ◌*◌, ◌/◌, ◌^◌, ◌<◌, ◌≤◌, Bool, true, false, cond, eqb, ltb, List, [], ◌∷◌, ◌++◌, length, get_or, take, drop, Fits, Result, Ok, Err, refl, sym, ap, subst, ◌∙◌, arith}
+use Rattle.std.proofs.Common.{◌≡◌, ℕ, zero, suc, ◌+◌, ◌*◌, ◌^◌, ◌<◌, ◌≤◌, Bool, true, false, cond, eqb, ltb, List, [], ◌∷◌, ◌++◌, length, get_or, take, drop, Fits, Result, Ok, Err, refl, sym, ap, subst, ◌∙◌, arith}
 use Rattle.std.specs.Int.{w64, from_le_bytes, to_le_bytes}
 use Rattle.std.proofs.lemmas.Bool.{le-ltb, ltb-false}
 use Rattle.std.proofs.lemmas.List.{take_at, drop_at, take-append-drop, length-append, length-take, length-drop, get_or-drop}
@@ -64,7 +64,7 @@ fills (suc n) (a ∷ b ∷ c ∷ d ∷ e ∷ f ∷ g ∷ k ∷ bs) le h =
     let rest = fills n bs (omega arith) h.1.1.1.1.1.1.1.1 in
     let eight : AreBytes (a ∷ b ∷ c ∷ d ∷ e ∷ f ∷ g ∷ k ∷ []) = bytes_take 8 (a ∷ b ∷ c ∷ d ∷ e ∷ f ∷ g ∷ k ∷ bs) h in
     subst (λ xs. Fills (a ∷ b ∷ c ∷ d ∷ e ∷ f ∷ g ∷ k ∷ bs) (xs ++ bytes_in (packed_in n bs))) (sym (one_cell (a ∷ b ∷ c ∷ d ∷ e ∷ f ∷ g ∷ k ∷ []) eight refl refl))
-      (ap (λ (xs : List ℕ). a ∷ b ∷ c ∷ d ∷ e ∷ f ∷ g ∷ k ∷ xs) rest.0, rest.1)
+    (ap (λ (xs : List ℕ). a ∷ b ∷ c ∷ d ∷ e ∷ f ∷ g ∷ k ∷ xs) rest.0, rest.1)
 
 pub length-packed : (n : ℕ) (bs : List ℕ) → length (packed_in n bs) ≡ n
 length-packed zero bs = refl
@@ -149,7 +149,7 @@ unpack_sound n k ws bs rest h le e =
     let long : k ≤ length ws = ltb-false _ _ g.0 in
     let len : length vs ≡ k = omega (arith, length-take k ws) in
     let front : packed_in k (take n (bytes_in vs)) ≡ vs =
-        packed_same k (take n (bytes_in vs)) (bytes_in vs) (λ i. zero_past n (bytes_in vs) i f.0) ∙ subst (λ m. packed_in m (bytes_in vs) ≡ vs) len (packed_back vs (words_take k ws h)) in
+    packed_same k (take n (bytes_in vs)) (bytes_in vs) (λ i. zero_past n (bytes_in vs) i f.0) ∙ subst (λ m. packed_in m (bytes_in vs) ≡ vs) len (packed_back vs (words_take k ws h)) in
     subst (λ (x : List ℕ × List ℕ). Unpacks n k ws x.0 x.1) f.1 (record {
       len = omega (arith, length-take n (bytes_in vs), length-bytes vs);
       bytes = bytes_take n (bytes_in vs) (bytes_of_words vs);

@@ -1,16 +1,15 @@
 -- A value that is of a shape and keeps to the ranges has its spelling, and no other value has one.
-use Rattle.std.proofs.Common.{◌≡◌, ℕ, zero, suc, ◌+◌, ◌^◌, ◌<◌, ltb, Bool, true, false, ◌&&◌, ℤ, pos, negsuc, List, [], ◌∷◌, ◌++◌, length, get_or, Fits, refl, sym, ap, subst, ◌∙◌, arith}
+use Rattle.std.proofs.Common.{◌≡◌, ℕ, suc, ◌^◌, ◌<◌, ltb, Bool, true, false, ◌&&◌, ℤ, pos, negsuc, List, [], ◌∷◌, ◌++◌, length, get_or, Fits, refl, sym, ap, subst, ◌∙◌, arith}
 use Rattle.std.specs.Prelude.{Result, Ok, Err, OnOk}
 use Rattle.std.specs.List.{list_all}
-use Rattle.std.specs.Int.{w64, w8, cast_unsigned}
+use Rattle.std.specs.Int.{w64, w8}
 use Rattle.std.specs.Int.RustNames.{FitsSigned}
 use Rattle.std.specs.Str.{is_utf8}
 use Rattle.std.proofs.lemmas.Bool.{ltb-true, lt-ltb}
 use Rattle.std.proofs.lemmas.Str.{IsUtf8-from_is_utf8, is_utf8-from_IsUtf8}
-use Rattle.std.proofs.Math.Facts.{sfits_lit}
 use Rattle.caf_types.specs.Form.{Form, unit, flag, unsigned, signed, text, bytes, place, list, object, Parts, no_parts, part}
 use Rattle.caf_words.specs.Datum.{Datum, a_unit, a_flag, an_unsigned, a_signed, a_text, some_bytes, a_place, a_list, an_object, Data, no_data, more, count, is_unit, is_flag, is_unsigned, is_signed, is_text, is_bytes, is_place, is_list, is_object, is_none, on_first, all_fit, fits, each_fits, is_i64, are_bytes, is_counted, is_in_range, are_in_range}
-use Rattle.caf_words.specs.Spelling.{bit, spelling, spellings, AreBytes, Spells, EachSpells, PartsSpell}
+use Rattle.caf_words.specs.Spelling.{spelling, spellings, AreBytes, Spells, EachSpells, PartsSpell}
 
 both : (a b : Bool) → (a && b) ≡ true → (a ≡ true) × (b ≡ true)
 both true b e = (refl, e)
@@ -184,7 +183,7 @@ first_kept test others S T k ks ds ws s =
     let p = k s.0 s.3 s.5 in
     let q = ks s.1 s.4 s.6 in
     subst (λ xs. AllKeep (on_first test others) xs ws) (sym s.2)
-      (record { fits = and_true p.fits q.fits; range = and_true p.range q.range; words = s.7 ∙ rw (p.words, q.words) refl })
+    (record { fits = and_true p.fits q.fits; range = and_true p.range q.range; words = s.7 ∙ rw (p.words, q.words) refl })
 
 mutual
   pub is_kept : (f : Form) → IsKept (fits f) (Spells f)
@@ -215,3 +214,16 @@ on_ok (Err e) b h = tt
 pub on_ok_both : {A E : Type 0} (r : Result A E) (a b : Bool) → OnOk r (a ≡ true) → b ≡ true → OnOk r ((a && b) ≡ true)
 on_ok_both (Ok x) a b p q = and_true p q
 on_ok_both (Err e) a b p q = tt
+
+-- ---- a list of one unit
+
+none_is : (ds : Data) → is_none ds ≡ true → no_data ≡ ds
+none_is no_data e = refl
+none_is (more d ds) e = absurd cc
+
+pub one_unit : (ds : Data) → on_first is_unit is_none ds ≡ true → more a_unit no_data ≡ ds
+one_unit no_data e = absurd cc
+one_unit (more d ds) e =
+    let p = both (is_unit d) (is_none ds) e in
+    let q : a_unit ≡ d = sym (unit_is d p.0) in
+    rw (← q) (ap (more a_unit) (none_is ds p.1))

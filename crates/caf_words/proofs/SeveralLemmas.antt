@@ -3,7 +3,6 @@ use Rattle.std.proofs.Common.{◌≡◌, ℕ, zero, suc, ◌+◌, ◌-◌, ◌<�
 use Rattle.std.specs.Prelude.{is_some}
 use Rattle.std.specs.Int.{w64, cast_signed}
 use Rattle.std.specs.Str.{is_utf8}
-use Rattle.std.proofs.lemmas.Bool.{ltb-false}
 use Rattle.std.proofs.lemmas.List.{length-drop, append-nil, drop_more}
 use Rattle.caf_types.specs.Form.{Form, unit, flag, unsigned, signed, text, bytes, place, list, object, Parts, no_parts, part, count_parts}
 use Rattle.caf_types.specs.Table.{Table, shape_at}
@@ -24,7 +23,7 @@ pub several_again : (fs : List Form) (ds : Data) (front rest : List ℕ) → Sev
 several_again [] ds front rest s = rw (s.0, s.1) refl
 several_again (f ∷ fs) ds front rest s =
     subst (λ (x : Data × List ℕ). several (f ∷ fs) (x.1 ++ rest) ≡ Ok (x.0, rest)) (pair_is s.2 s.7)
-      (more_again s.0 s.1 s.3 s.4 rest (reading f) (several fs) (is_read f s.0 s.3 (s.4 ++ rest) s.5) (several_again fs s.1 s.4 rest s.6))
+    (more_again s.0 s.1 s.3 s.4 rest (reading f) (several fs) (is_read f s.0 s.3 (s.4 ++ rest) s.5) (several_again fs s.1 s.4 rest s.6))
 
 -- ---- the whole of the words
 
@@ -104,11 +103,11 @@ unpacked_bound n zero ws =
     let le : length ws ≤ length ws = omega arith in
     let bs : List ℕ = take n [] in
     guard_bound (ltb (length ws) 0) (cond (are_zeros (drop n [])) (got bs ws) (Err (length ws + 1 - 0))) (length ws)
-      (subst (λ b. left (cond b (got bs ws) (Err (length ws + 1 - 0))) ≤ length ws) (sym (none_left n)) le)
+    (subst (λ b. left (cond b (got bs ws) (Err (length ws + 1 - 0))) ≤ length ws) (sym (none_left n)) le)
 unpacked_bound n (suc k) ws =
     let vs : List ℕ = take (suc k) ws in
     guard_bound (ltb (length ws) (suc k)) (cond (are_zeros (drop n (bytes_in vs))) (Ok (take n (bytes_in vs), drop (suc k) ws)) (Err (length ws + 1 - suc k))) (length ws)
-      (zeros_bound (are_zeros (drop n (bytes_in vs))) (take n (bytes_in vs)) (suc k) (length ws) (drop (suc k) ws) (omega (arith, length-drop (suc k) ws)) (omega arith))
+    (zeros_bound (are_zeros (drop n (bytes_in vs))) (take n (bytes_in vs)) (suc k) (length ws) (drop (suc k) ws) (omega (arith, length-drop (suc k) ws)) (omega arith))
 
 within : {A : Type 0} (read : List ℕ → Got A) (ws : List ℕ) (m : ℕ) → IsBound read → length ws ≤ m → left (read ws) ≤ m
 within read ws m b le = let h = b ws in omega (arith, h, le)
@@ -129,7 +128,7 @@ some_bytes_bound ws = bind_bound (bytes_at ws) (λ x. Ok (some_bytes x.0, x.1)) 
 more_bound : (read : List ℕ → Got Datum) (others : List ℕ → Got Data) → IsBound read → IsBound others → IsBound (λ ws. then_more (read ws) others)
 more_bound read others b c ws =
     bind_bound (read ws) (λ x. others x.1 >>= λ y. Ok (more x.0 y.0, y.1)) (length ws) (b ws)
-      (λ x le. bind_bound (others x.1) (λ y. Ok (more x.0 y.0, y.1)) (length ws) (within others x.1 (length ws) c le) (λ y k. k))
+    (λ x le. bind_bound (others x.1) (λ y. Ok (more x.0 y.0, y.1)) (length ws) (within others x.1 (length ws) c le) (λ y k. k))
 
 many_bound : (read : List ℕ → Got Datum) → IsBound read → (n : ℕ) → IsBound (many read n)
 many_bound read b zero ws = omega arith
@@ -138,7 +137,7 @@ many_bound read b (suc n) ws = more_bound read (many read n) b (many_bound read 
 list_bound : (items : ℕ → List ℕ → Got Data) → ((n : ℕ) → IsBound (items n)) → IsBound (list_at items)
 list_bound items b ws =
     bind_bound (first_of ws) (λ n. items n.0 n.1 >>= λ x. Ok (a_list x.0, x.1)) (length ws) (first_bound ws)
-      (λ n le. bind_bound (items n.0 n.1) (λ x. Ok (a_list x.0, x.1)) (length ws) (within (items n.0) n.1 (length ws) (b n.0) le) (λ x k. k))
+    (λ n le. bind_bound (items n.0 n.1) (λ x. Ok (a_list x.0, x.1)) (length ws) (within (items n.0) n.1 (length ws) (b n.0) le) (λ x k. k))
 
 after_bound : (b : Bool) (fields : List ℕ → Got Data) → IsBound fields → (ws rest : List ℕ) → length rest ≤ length ws → left (fields_after b fields ws rest) ≤ length ws
 after_bound false fields h ws rest le = omega arith

@@ -1,10 +1,10 @@
 -- What is read is spelled so, and what is spelled so is read, whatever follows it.
-use Rattle.std.proofs.Common.{◌≡◌, ℕ, zero, suc, ◌+◌, ◌*◌, ◌/◌, ◌^◌, ◌<◌, ◌≤◌, Bool, true, false, cond, eqb, ltb, List, [], ◌∷◌, ◌++◌, length, Option, Some, None, Result, Ok, Err, refl, sym, ap, subst, ◌∙◌, append_assoc, eq-eqb, arith, ℤ, rules}
+use Rattle.std.proofs.Common.{◌≡◌, ℕ, zero, suc, ◌+◌, ◌^◌, ◌<◌, Bool, true, false, cond, eqb, ltb, List, [], ◌∷◌, ◌++◌, length, Option, Some, None, Result, Ok, Err, refl, sym, ap, subst, ◌∙◌, append_assoc, eq-eqb, arith, ℤ, rules}
 use Rattle.std.proofs.Math.Facts.{eqb_yes}
 use Rattle.std.proofs.lemmas.Int.{ints, to_z-of_z, of_z-to_z}
 use Rattle.std.specs.Int.{w64, cast_signed, cast_unsigned}
 use Rattle.std.specs.Int.RustNames.{FitsSigned}
-use Rattle.std.specs.Str.{IsUtf8, is_utf8}
+use Rattle.std.specs.Str.{is_utf8}
 use Rattle.std.proofs.lemmas.Bool.{ltb-true, lt-ltb}
 use Rattle.std.proofs.lemmas.Str.{IsUtf8-from_is_utf8, is_utf8-from_IsUtf8}
 use Rattle.std.proofs.lemmas.List.{append_cancel_right}
@@ -12,7 +12,7 @@ use Rattle.caf_types.specs.Form.{Form, unit, flag, unsigned, signed, text, bytes
 use Rattle.caf_words.specs.Datum.{Datum, a_unit, a_flag, an_unsigned, a_signed, a_text, some_bytes, a_place, a_list, an_object, Data, no_data, more, count}
 use Rattle.caf_words.specs.Spelling.{words_for, packed, packed_in, bit, AreBytes, Spells, EachSpells, PartsSpell}
 use Rattle.caf_words.specs.Reading.{Got, ◌>>=◌, first_of, taken, one_word, unit_in, flag_in, place_in, bytes_at, unpacked, text_at, some_bytes_at, then_more, many, list_at, fields_after, object_at, reading, each_reading}
-use Rattle.caf_words.proofs.PackingLemmas.{AreWords, unpack_sound, unpack_again, Unpacks}
+use Rattle.caf_words.proofs.PackingLemmas.{AreWords, unpack_sound, unpack_again}
 
 pub bind_ok : {A B : Type 0} (r : Result A ℕ) (f : A → Result B ℕ) (y : B) → (r >>= f) ≡ Ok y → (x : A) × (r ≡ Ok x) × (f x ≡ Ok y)
 bind_ok (Ok x) f y e = (x, refl, e)
@@ -267,7 +267,7 @@ mutual
   parts_read no_parts ds front rest s = rw (s.0, s.1) refl
   parts_read (part n f ps) ds front rest s =
       subst (λ (x : Data × List ℕ). each_reading (part n f ps) (x.1 ++ rest) ≡ Ok (x.0, rest)) (pair_is s.2 s.7)
-        (more_again s.0 s.1 s.3 s.4 rest (reading f) (each_reading ps) (is_read f s.0 s.3 (s.4 ++ rest) s.5) (parts_read ps s.1 s.4 rest s.6))
+      (more_again s.0 s.1 s.3 s.4 rest (reading f) (each_reading ps) (is_read f s.0 s.3 (s.4 ++ rest) s.5) (parts_read ps s.1 s.4 rest s.6))
 
 -- ---- what follows from the two
 

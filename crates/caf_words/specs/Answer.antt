@@ -1,7 +1,7 @@
 -- What the readers of the code answered is what reading gives.
-use Rattle.std.specs.Prelude.{◌≡◌, ℕ, ◌+◌, List, length, map, Result, Ok, Err}
+use Rattle.std.specs.Prelude.{◌≡◌, ℕ, ◌+◌, List, length, Result, Ok, Err}
 use Rattle.caf_types.specs.Table.{Table}
-use Rattle.caf_words.specs.Datum.{Data, data_of}
+use Rattle.caf_words.specs.Datum.{Data}
 use Rattle.caf_words.specs.Several.{TypesSpell, whole_reading}
 use Rattle.caf_words.specs.declared.stop.Stop.{Stop}
 use Rattle.caf_words.specs.declared.stop.Stop.TheVariants as stops

@@ -1,5 +1,5 @@
 -- Values of several types, one after the other, as a message has them.
-use Rattle.std.specs.Prelude.{◌≡◌, ℕ, Bool, List, [], ◌∷◌, ◌++◌, length, map, Option, Some, None, is_some, Result, Ok, Err}
+use Rattle.std.specs.Prelude.{◌≡◌, ℕ, Bool, List, [], ◌∷◌, ◌++◌, length, map, Option, Some, None, Result, Ok, Err}
 use Rattle.caf_types.specs.Form.{Form}
 use Rattle.caf_types.specs.Table.{Table, shape_at}
 use Rattle.caf_types.specs.declared.shape.TypeId.{TypeId}

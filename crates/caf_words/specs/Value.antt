@@ -1,5 +1,4 @@
 -- A value of the program as a plain tree: one fold.
-use Rattle.std.specs.Prelude.{List}
 use Rattle.caf_words.specs.Datum.{Datum, a_unit, a_flag, an_unsigned, a_signed, a_text, some_bytes, a_place, a_list, an_object, data_of}
 use Rattle.caf_words.specs.declared.value.Value.{Value}
 use Rattle.caf_words.specs.declared.value.Value.TheOpen as open_value

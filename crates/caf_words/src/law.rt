@@ -9,19 +9,16 @@ ghost use Rattle.caf_words.specs.Spelling.{spelling, Spells};
 pub fn values_are_spelled()
     ensures spelled { (f : Form) (d : Datum) → fits f d ≡ true → is_in_range d ≡ true → Spells f d (spelling d) }
     ensures fitting { (f : Form) (d : Datum) (ws : List ℕ) → Spells f d ws → (fits f d ≡ true) × (is_in_range d ≡ true) × (ws ≡ spelling d) }
-{
-}
+{}
 
 /// No spelling of a shape is a proper prefix of another one of that shape, and no spelling stands for
 /// two values.
 pub fn spellings_are_prefix_free()
     ensures { (f : Form) (d e : Datum) (a b x y : List ℕ) → Spells f d a → Spells f e b → a ++ x ≡ b ++ y → (d ≡ e) × (x ≡ y) × (a ≡ b) }
-{
-}
+{}
 
 /// What was spelled is read again, whatever follows it.
 pub fn spellings_are_read()
     ensures one { (f : Form) (d : Datum) (a rest : List ℕ) → Spells f d a → reading f (a ++ rest) ≡ Ok (d, rest) }
     ensures several { (fs : List Form) (ds : Data) (a rest : List ℕ) → SeveralSpell fs ds a → several fs (a ++ rest) ≡ Ok (ds, rest) }
-{
-}
+{}

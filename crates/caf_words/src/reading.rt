@@ -27,7 +27,11 @@ pub(crate) fn first(words: &[u64]) -> Result<(u64, &[u64]), Stop>
 
 /// The value of that shape that the words begin with, and the words after it.
 #[cycle(value_at)]
-pub(crate) fn value_at<'a>(alloc: Global, shape: &Shape, words: &'a [u64]) -> Result<(Value, &'a [u64]), Stop>
+pub(crate) fn value_at<'a>(
+    alloc: Global,
+    shape: &Shape,
+    words: &'a [u64],
+) -> Result<(Value, &'a [u64]), Stop>
     ensures { Gives (λ x. (datum x.0, x.1.now)) result (reading (form shape.now) words.now) }
 {
     match shape {
@@ -81,7 +85,12 @@ pub(crate) fn value_at<'a>(alloc: Global, shape: &Shape, words: &'a [u64]) -> Re
 }
 
 #[cycle(value_at)]
-fn items_at<'a>(alloc: Global, shape: &Shape, count: u64, words: &'a [u64]) -> Result<(Vec<Value>, &'a [u64]), Stop>
+fn items_at<'a>(
+    alloc: Global,
+    shape: &Shape,
+    count: u64,
+    words: &'a [u64],
+) -> Result<(Vec<Value>, &'a [u64]), Stop>
     ensures { Gives (λ x. (data_of (map datum x.0.items), x.1.now)) result (many (reading (form shape.now)) count words.now) }
 {
     let mut items = Vec::new(alloc);
@@ -95,7 +104,11 @@ fn items_at<'a>(alloc: Global, shape: &Shape, count: u64, words: &'a [u64]) -> R
 }
 
 #[cycle(value_at)]
-fn fields_at<'a>(alloc: Global, fields: &[Field], words: &'a [u64]) -> Result<(Vec<Value>, &'a [u64]), Stop>
+fn fields_at<'a>(
+    alloc: Global,
+    fields: &[Field],
+    words: &'a [u64],
+) -> Result<(Vec<Value>, &'a [u64]), Stop>
     ensures { Gives (λ x. (data_of (map datum x.0.items), x.1.now)) result (each_reading (parts fields.now) words.now) }
 {
     let mut values = Vec::new(alloc);
@@ -110,7 +123,11 @@ fn fields_at<'a>(alloc: Global, fields: &[Field], words: &'a [u64]) -> Result<(V
 
 #[cycle(value_at)]
 #[tactic(auto, using(crate::proofs::CountLemmas::object_wrong, crate::proofs::CountLemmas::object_right))]
-fn object_at<'a>(alloc: Global, fields: &[Field], words: &'a [u64]) -> Result<(Vec<Value>, &'a [u64]), Stop>
+fn object_at<'a>(
+    alloc: Global,
+    fields: &[Field],
+    words: &'a [u64],
+) -> Result<(Vec<Value>, &'a [u64]), Stop>
     ensures { Gives (λ x. (an_object (data_of (map datum x.0.items)), x.1.now)) result (reading_object (count_parts (parts fields.now)) (each_reading (parts fields.now)) words.now) }
 {
     let (count, rest) = first(words)?;
@@ -124,7 +141,12 @@ fn object_at<'a>(alloc: Global, fields: &[Field], words: &'a [u64]) -> Result<(V
 /// The values of these types, of which the words are the spellings, one after the other.
 ///
 /// `At` comes exactly where there are none, with the place of the first fault.
-pub fn read(alloc: Global, table: &TypeTable, types: &[TypeId], words: &[u64]) -> Result<Seq<Value>, SpellFault>
+pub fn read(
+    alloc: Global,
+    table: &TypeTable,
+    types: &[TypeId],
+    words: &[u64],
+) -> Result<Seq<Value>, SpellFault>
     requires { IsTrue (is_some (shapes_at (seen table.now) (ids_of types.now))) }
     ensures found { IfOk result (λ values. TypesSpell (seen table.now) (ids_of types.now) (data_of (map datum values)) words.now) }
     ensures faulty { IfErr result (λ fault. Faulty fault (seen table.now) (ids_of types.now) words.now) }
@@ -142,7 +164,12 @@ fn place_of(length: u64, left: u64) -> u64
     length.saturating_sub(left)
 }
 
-fn read_whole(alloc: Global, table: &TypeTable, types: &[TypeId], words: &[u64]) -> Result<Vec<Value>, Stop>
+fn read_whole(
+    alloc: Global,
+    table: &TypeTable,
+    types: &[TypeId],
+    words: &[u64],
+) -> Result<Vec<Value>, Stop>
     requires { IsTrue (is_some (shapes_at (seen table.now) (ids_of types.now))) }
     ensures { Gives (λ values. data_of (map datum values.items)) result (whole_reading (seen table.now) (ids_of types.now) words.now) }
 {
@@ -154,7 +181,12 @@ fn read_whole(alloc: Global, table: &TypeTable, types: &[TypeId], words: &[u64])
 }
 
 /// The values of these types that the words begin with, and the words after them.
-fn values_at<'a>(alloc: Global, table: &TypeTable, types: &[TypeId], words: &'a [u64]) -> Result<(Vec<Value>, &'a [u64]), Stop>
+fn values_at<'a>(
+    alloc: Global,
+    table: &TypeTable,
+    types: &[TypeId],
+    words: &'a [u64],
+) -> Result<(Vec<Value>, &'a [u64]), Stop>
     requires { IsTrue (is_some (shapes_at (seen table.now) (ids_of types.now))) }
     ensures { Gives (λ x. (data_of (map datum x.0.items), x.1.now)) result (shapes_reading (shapes_at (seen table.now) (ids_of types.now)) words.now) }
 {
@@ -168,7 +200,12 @@ fn values_at<'a>(alloc: Global, table: &TypeTable, types: &[TypeId], words: &'a 
     Ok((values, rest))
 }
 
-fn typed_value_at<'a>(alloc: Global, table: &TypeTable, id: TypeId, words: &'a [u64]) -> Result<(Value, &'a [u64]), Stop>
+fn typed_value_at<'a>(
+    alloc: Global,
+    table: &TypeTable,
+    id: TypeId,
+    words: &'a [u64],
+) -> Result<(Value, &'a [u64]), Stop>
     requires { IsTrue (is_some (shape_at (seen table.now) id.0)) }
     ensures { (f : Form) → shape_at (seen table.now) id.0 ≡ Some f → Gives (λ x. (datum x.0, x.1.now)) result (reading f words.now) }
 {

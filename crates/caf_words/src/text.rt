@@ -4,7 +4,8 @@ ghost use Rattle.caf_words.specs.Spelling.{packed, words_for};
 ghost use Rattle.caf_words.specs.Reading.{bytes_in, bytes_at, are_zeros, unpacked, text_at};
 ghost use Rattle.caf_words.specs.Datum.{a_text};
 
-use crate::{reading::first, stop::Stop};
+use crate::reading::first;
+use crate::stop::Stop;
 use caf_types::Letters;
 use std::alloc::{AllocError, Global};
 
@@ -33,11 +34,20 @@ fn are_all_zero(bytes: &[u8]) -> bool
 fn words_of_length(length: u64) -> u64
     ensures { result ≡ words_for length }
 {
-    if length % 8 == 0 { length / 8 } else { length / 8 + 1 }
+    if length % 8 == 0 {
+        length / 8
+    } else {
+        length / 8 + 1
+    }
 }
 
 /// So many bytes, in so many words.
-fn bytes_of(alloc: Global, length: u64, count: u64, words: &[u64]) -> Result<(Vec<u8>, &[u64]), Stop>
+fn bytes_of(
+    alloc: Global,
+    length: u64,
+    count: u64,
+    words: &[u64],
+) -> Result<(Vec<u8>, &[u64]), Stop>
     ensures { Gives (λ x. (x.0.items, x.1.now)) result (unpacked length count words.now) }
 {
     if (words.len() as u64) < count {

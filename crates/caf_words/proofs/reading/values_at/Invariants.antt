@@ -9,4 +9,4 @@ use Rattle.caf_words.proofs.reading.values_at.Given as goal
 abbrev pub invariant-loop-id : goal.invariant-loop-id
 invariant-loop-id l =
     (with_front (map datum l.values.items) (shapes_reading (shapes_at (seen l.table) (ids_of (drop l.id-index l.types))) l.rest) ≡ shapes_reading (shapes_at (seen l.table) (ids_of l.types)) l.words)
-      × (is_some (shapes_at (seen l.table) (ids_of (drop l.id-index l.types))) ≡ true)
+    × (is_some (shapes_at (seen l.table) (ids_of (drop l.id-index l.types))) ≡ true)

@@ -1,4 +1,4 @@
-use Rattle.std.proofs.Common.{◌≡◌, ◌++◌, ◌∷◌, [], length, drop, sym, ap, subst, ◌∙◌, List, ℕ, append_assoc, rules, refl, min, arith}
+use Rattle.std.proofs.Common.{◌≡◌, ◌++◌, ◌∷◌, [], length, drop, sym, ap, subst, ◌∙◌, List, ℕ, append_assoc, rules, min, arith}
 use Rattle.std.proofs.lemmas.List.{drop_min}
 use Rattle.std.specs.Int.{w64, from_le_bytes}
 use Rattle.caf_words.specs.Spelling.{packed}
@@ -15,6 +15,6 @@ pub loop-rest-preserved : goal.loop-rest-preserved
 loop-rest-preserved c =
     let some : c.loop-rest.rest.now ≡ [] → ⊥ = search rules in
     more c.loop-rest.words.items c.loop-rest.rest.now c.split_at.result.1.now _ c.push.new.words.items some
-      (c.split_at.ensures.back ∙ rw c.min.ensures (cut c.loop-rest.rest.now))
-      (c.in_ok-push.ensures.added ∙ ap (λ w. c.loop-rest.words.items ++ w ∷ []) c.cell.ensures)
-      c.loop-rest.invariant
+    (c.split_at.ensures.back ∙ rw c.min.ensures (cut c.loop-rest.rest.now))
+    (c.in_ok-push.ensures.added ∙ ap (λ w. c.loop-rest.words.items ++ w ∷ []) c.cell.ensures)
+    c.loop-rest.invariant
