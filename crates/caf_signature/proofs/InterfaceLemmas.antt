@@ -1,6 +1,6 @@
 -- The tests on signatures decide what they test, and a look-up finds an input exactly where it stands.
-use Rattle.std.proofs.Common.{◌≡◌, ◌==◌, ℕ, ◌<◌, Bool, true, false, cond, ◌&&◌, List, [], ◌∷◌, map, length, take, Option, Some, None, is_some, refl, sym, ap, ◌∙◌, subst, inl, inr, arith, get_or}
-use Rattle.std.specs.Prelude.{◌≢◌, ◌⊎◌, ◌+◌, find, slice_get, All, Contains, AllPairs}
+use Rattle.std.proofs.Common.{◌≡◌, ◌==◌, ℕ, ◌<◌, Bool, true, false, cond, ◌&&◌, List, [], ◌∷◌, length, take, Option, Some, None, is_some, refl, sym, ap, ◌∙◌, subst, inl, inr, arith, get_or}
+use Rattle.std.specs.Prelude.{◌≢◌, ◌⊎◌, ◌+◌, find, slice_get, All, Contains}
 use Rattle.std.specs.Bool.{Decides}
 use Rattle.std.specs.List.{list_any, list_all}
 use Rattle.std.proofs.lemmas.Bool.{eqb-true}
@@ -33,26 +33,29 @@ pub same_types-Decides : (xs ys : List TypeId) → Decides (same_types xs ys) (x
 same_types-Decides xs ys = slice_eq-Decides type_id-Decides xs ys _ refl
 
 is_same-Decides : (s t : Signature) → Decides (is_same s t) (s ≡ t)
-is_same-Decides s t =
-    ( λ e.
-        let parts = both _ _ e in
-        let input : s.input ≡ t.input = (same_types-Decides _ _).0 parts.0 in
-        let outcome : s.result ≡ t.result = (same_types-Decides _ _).0 parts.1 in
-        λ i. record { input = input i; result = outcome i }
-    , λ e. both_so _ _ ((same_types-Decides s.input t.input).1 (ap (λ (u : Signature). u.input) e))
-        ((same_types-Decides s.result t.result).1 (ap (λ (u : Signature). u.result) e)) )
+is_same-Decides s t = (
+  λ e.
+      let parts = both _ _ e in
+      let input : s.input ≡ t.input = (same_types-Decides _ _).0 parts.0 in
+      let outcome : s.result ≡ t.result = (same_types-Decides _ _).0 parts.1 in
+      λ i. record { input = input i; result = outcome i },
+  λ e. both_so _ _ ((same_types-Decides s.input t.input).1 (ap (λ (u : Signature). u.input) e))
+      ((same_types-Decides s.result t.result).1 (ap (λ (u : Signature). u.result) e)),
+)
 
 any_is : (xs : List Signature) (s : Signature) → Decides (list_any (is_same s) xs) (Contains xs s)
-any_is xs s =
-    ( Contains-from_any (λ x y e. (is_same-Decides x y).0 e) s xs
-    , λ h. list_any_at (is_same s) xs h.0 s h.1 ((is_same-Decides s (get_or xs h.0 s)).1 (sym h.2)) )
+any_is xs s = (
+  Contains-from_any (λ x y e. (is_same-Decides x y).0 e) s xs,
+  λ h. list_any_at (is_same s) xs h.0 s h.1 ((is_same-Decides s (get_or xs h.0 s)).1 (sym h.2)),
+)
 
 all_are : {X : Type 0} (p : X → Bool) (P : X → Type 0) → ((x : X) → Decides (p x) (P x)) → (xs : List X) → Decides (list_all p xs) (All P xs)
 all_are p P decides [] = (λ e. All-nil P, λ h. refl)
 all_are p P decides (x ∷ xs) =
-    let rest = all_are p P decides xs in
-    ( λ e. All-cons P x xs ((decides x).0 (both _ _ e).0) (rest.0 (both _ _ e).1)
-    , λ h. both_so _ _ ((decides x).1 (All-head P x xs h)) (rest.1 (All-tail P x xs h)) )
+    let rest = all_are p P decides xs in (
+      λ e. All-cons P x xs ((decides x).0 (both _ _ e).0) (rest.0 (both _ _ e).1),
+      λ h. both_so _ _ ((decides x).1 (All-head P x xs h)) (rest.1 (All-tail P x xs h)),
+    )
 
 pub assignable-Decides : (from to : List Signature) → Decides (is_assignable from to) (IsAssignable from to)
 assignable-Decides from to = all_are _ _ (any_is from) to
@@ -66,9 +69,10 @@ Contains-inputs xs s h =
 found_at : (input : List TypeId) (x : Signature) (xs : List Signature) (s : Signature) → (find (takes input) xs ≡ Some s → (s.input ≡ input) × Contains xs s) →
     (b : Bool) → takes input x ≡ b → cond b (Some x) (find (takes input) xs) ≡ Some s → (s.input ≡ input) × Contains (x ∷ xs) s
 found_at input x xs s rest true is e =
-    let same : x ≡ s = cc in
-    ( subst (λ (t : Signature). t.input ≡ input) same (sym ((same_types-Decides input x.input).0 is))
-    , subst (λ (t : Signature). Contains (x ∷ xs) t) same (Contains-get_or (x ∷ xs) 0 x (omega arith)) )
+    let same : x ≡ s = cc in (
+      subst (λ (t : Signature). t.input ≡ input) same (sym ((same_types-Decides input x.input).0 is)),
+      subst (λ (t : Signature). Contains (x ∷ xs) t) same (Contains-get_or (x ∷ xs) 0 x (omega arith)),
+    )
 found_at input x xs s rest false is e =
     let later : (s.input ≡ input) × Contains xs s = rest e in
     (later.0, Contains-append_right (x ∷ []) xs s later.1)
@@ -121,6 +125,6 @@ pub differ_more : (xs : List Signature) (i : ℕ) (s : Signature) → i < length
     is_some (find (takes s.input) (take i xs)) ≡ false → HaveDifferingInputs (take (i + 1) xs)
 differ_more xs i s l at differ none =
     rw (take_more xs i s l, at) (all_pairs_push (λ (a b : Signature). a.input ≢ b.input) (take i xs) s differ (λ k d h same.
-      let stands : Contains (inputs (take i xs)) (get_or (take i xs) k d).input = Contains-inputs (take i xs) (get_or (take i xs) k d) (Contains-get_or (take i xs) k d h) in
-      let some : is_some (find (takes s.input) (take i xs)) ≡ true = is_some-find s.input (take i xs) (subst (λ (i' : List TypeId). Contains (inputs (take i xs)) i') same stands) in
-      let clash : ⊥ = cc in clash))
+    let stands : Contains (inputs (take i xs)) (get_or (take i xs) k d).input = Contains-inputs (take i xs) (get_or (take i xs) k d) (Contains-get_or (take i xs) k d h) in
+    let some : is_some (find (takes s.input) (take i xs)) ≡ true = is_some-find s.input (take i xs) (subst (λ (i' : List TypeId). Contains (inputs (take i xs)) i') same stands) in
+    let clash : ⊥ = cc in clash))

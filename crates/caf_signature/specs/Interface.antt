@@ -1,5 +1,5 @@
 -- Interfaces: lists of signatures with differing inputs, and when one stands for another.
-use Rattle.std.specs.Prelude.{◌≡◌, ◌≢◌, ℕ, Bool, ◌==◌, ◌&&◌, List, map, take, Option, Some, None, Result, Ok, Err, find, slice_get, All, AllPairs, Contains}
+use Rattle.std.specs.Prelude.{◌≡◌, ◌≢◌, ℕ, Bool, ◌==◌, ◌&&◌, List, map, take, Option, Some, Result, Ok, Err, find, slice_get, All, AllPairs, Contains}
 use Rattle.std.specs.List.{list_any, list_all}
 use Rattle.std.specs.Option.{option_map}
 use Rattle.std.specs.Cmp.Lexicographic.{pointwise}

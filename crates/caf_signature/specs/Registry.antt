@@ -23,7 +23,7 @@ type_id_code = code_by ℕ coded_ℕ (λ t. t.0) (λ n. record { 0 = n }) (λ _.
 abbrev pub signature_code : Coded Signature
 signature_code =
     code_by (List TypeId × List TypeId) (coded× (coded_list type_id_code) (coded_list type_id_code))
-      (λ s. (s.input, s.result)) (λ p. record { input = p.0; result = p.1 }) (λ _. refl)
+    (λ s. (s.input, s.result)) (λ p. record { input = p.0; result = p.1 }) (λ _. refl)
 
 abbrev pub registrations_code : Coded Registrations
 registrations_code = finite.code (coded_list coded_ℕ) (coded× coded_ℕ (coded_list signature_code))

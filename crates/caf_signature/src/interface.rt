@@ -106,13 +106,17 @@ fn first_repeat(signatures: &[Signature]) -> Option<u64>
 fn has_signatures(signatures: &[Signature], wanted: &[Signature]) -> bool
     ensures { result ≡ is_assignable signatures.now wanted.now }
 {
-    wanted.iter().all(|wanted| has_signature(signatures, wanted))
+    wanted
+        .iter()
+        .all(|wanted| has_signature(signatures, wanted))
 }
 
 fn has_signature(signatures: &[Signature], wanted: &Signature) -> bool
     ensures { result ≡ list_any (interfaces.is_same wanted.now) signatures.now }
 {
-    signatures.iter().any(|signature| is_same(wanted, signature))
+    signatures
+        .iter()
+        .any(|signature| is_same(wanted, signature))
 }
 
 fn is_same(left: &Signature, right: &Signature) -> bool
@@ -125,7 +129,9 @@ fn is_same(left: &Signature, right: &Signature) -> bool
 fn find_input<'a>(signatures: &'a [Signature], input: &[TypeId]) -> Option<&'a Signature>
     ensures { option_copied result ≡ find (takes input.now) signatures.now }
 {
-    signatures.iter().find(|signature| same_types(input, signature.input.as_slice()))
+    signatures
+        .iter()
+        .find(|signature| same_types(input, signature.input.as_slice()))
 }
 
 fn same_types(left: &[TypeId], right: &[TypeId]) -> bool

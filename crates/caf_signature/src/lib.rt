@@ -13,3 +13,6 @@ mod registry;
 
 pub use interface::{Interface, InterfaceFault, Signature, assignable, result_of};
 pub use registry::{FindFault, Registry, RegistryFault};
+
+#[cfg(test)]
+mod tests;

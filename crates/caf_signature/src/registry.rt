@@ -93,6 +93,7 @@ impl Registry {
             }
         }
     }
+
     fn registered(&self, name: &str) -> Option<&(u32, Interface)>
         ensures { option_copied result ≡ finite.get self.now name.now }
     {
@@ -100,8 +101,13 @@ impl Registry {
     }
 }
 
-fn insert(entries: &mut BTreeMap<String, (u32, Interface)>, key: String, registered: (u32, Interface)) -> Result<(), RegistryFault>
-    ensures added { OnOk result (registrations entries.new.entries ≡ finite.insert (registrations entries.old.entries) (string_bytes key) registered) }
+fn insert(
+    entries: &mut BTreeMap<String, (u32, Interface)>,
+    key: String,
+    registered: (u32, Interface),
+) -> Result<(), RegistryFault>
+    ensures added { let old = registrations entries.old.entries in
+        OnOk result (registrations entries.new.entries ≡ finite.insert old (string_bytes key) registered) }
     ensures kept { OnErr result (entries.new.entries ≡ entries.old.entries) }
     ensures memory { IsOkUnless result RegistryFault.Memory }
 {
