@@ -125,8 +125,8 @@ fn notices(
     me: u32,
     reason: Reason,
 ) -> Result<Vec<(u32, Notice)>, AllocError>
-    ensures { let sets = record { links = links.now.keys; monitors = monitors.now.keys } in
-        IfOk result (λ notices. notices.items ≡ observers.farewell sets me reason) }
+    ensures { IfOk result (λ notices. notices.items ≡
+        observers.farewell (record { links = links.now.keys; monitors = monitors.now.keys }) me reason) }
 {
     let exits = links.iter().map(|place| (*place, Notice::Exit(me, reason)));
     let downs = monitors
