@@ -1,7 +1,7 @@
 use crate::{End, LimitKind, Outcome, WordList, end_line, run_main};
 use caf_io::{MemoryFiles, MemorySink};
 use caf_types::{Letters, Seq};
-use std::alloc::Global;
+use std::alloc::{AllocError, Global};
 use std::test::Fail;
 
 fn words(alloc: Global, texts: &[&str]) -> Result<WordList, Fail> {
@@ -10,6 +10,11 @@ fn words(alloc: Global, texts: &[&str]) -> Result<WordList, Fail> {
         words.push(Letters::of(alloc, text)?)?;
     }
     Ok(words)
+}
+
+/// The top call, of which the tests know nothing but what it does.
+fn run(alloc: Global, words: &WordList, files: &mut MemoryFiles, out: &mut MemorySink) -> Outcome {
+    run_main(alloc, words, files, out)
 }
 
 /// `run NAME` over one file of that name.
@@ -21,7 +26,7 @@ fn run_over(
 ) -> Result<Outcome, Fail> {
     let mut files = MemoryFiles::new(alloc);
     files.add(alloc, name, bytes)?;
-    Ok(run_main(alloc, &words(alloc, &["run", name])?, &mut files, out))
+    Ok(run(alloc, &words(alloc, &["run", name])?, &mut files, out))
 }
 
 #[test]
@@ -74,7 +79,7 @@ fn other_words_are_refused(rt: HostRuntime) -> Result<(), Fail> {
         let mut files = MemoryFiles::new(alloc);
         files.add(alloc, "A.txt", b"The cat\n")?;
         let mut out = MemorySink::new(alloc);
-        let outcome = run_main(alloc, &texts, &mut files, &mut out);
+        let outcome = run(alloc, &texts, &mut files, &mut out);
         assert_eq!(rt; outcome.status, 1);
         assert_eq!(rt; files.calls(), 0);
         assert_eq!(rt; out.calls(), 0);
@@ -82,19 +87,27 @@ fn other_words_are_refused(rt: HostRuntime) -> Result<(), Fail> {
     Ok(())
 }
 
+fn blanks(alloc: Global, count: usize) -> Result<Vec<u8>, AllocError> {
+    vec![in alloc; b' '; count]
+}
+
 #[test]
 fn a_byte_past_the_limit_is_told(rt: HostRuntime) -> Result<(), Fail> {
     let alloc = rt.alloc();
-    let bytes = vec![in alloc; b' '; 1_048_577]?;
     let mut out = MemorySink::new(alloc);
-    let outcome = run_over(alloc, "A.txt", bytes.as_slice(), &mut out)?;
-    assert_eq!(rt; outcome.status, 4);
-    assert!(rt; matches!(outcome.end, End::Limit(LimitKind::Corpus, 1, 0)));
-    assert_eq!(rt; out.calls(), 0);
-    let outcome = run_over(alloc, "A.txt", &bytes.as_slice()[..1_048_576], &mut out)?;
-    assert_eq!(rt; outcome.status, 0);
+    for (count, status, writes) in [(1_048_577, 4, 0), (1_048_576, 0, 1)] {
+        let bytes = blanks(alloc, count)?;
+        let outcome = run_over(alloc, "A.txt", bytes.as_slice(), &mut out)?;
+        assert_eq!(rt; outcome.status, status);
+        assert_eq!(rt; is_corpus_limit(&outcome.end), status == 4);
+        assert_eq!(rt; out.calls(), writes);
+    }
     assert_eq!(rt; out.written(), b"".as_slice());
     Ok(())
+}
+
+fn is_corpus_limit(end: &End) -> bool {
+    matches!(end, End::Limit(LimitKind::Corpus, 1, 0))
 }
 
 #[test]
@@ -103,18 +116,18 @@ fn a_failed_read_or_write_is_told(rt: HostRuntime) -> Result<(), Fail> {
     let words = words(alloc, &["run", "A.txt"])?;
     let mut files = MemoryFiles::new(alloc);
     let mut out = MemorySink::new(alloc);
-    let absent = run_main(alloc, &words, &mut files, &mut out);
+    let absent = run(alloc, &words, &mut files, &mut out);
     assert_eq!(rt; absent.status, 3);
 
     files.add(alloc, "A.txt", b"The cat\nthe dog\n")?;
     files.fail_at(2)?;
-    let unread = run_main(alloc, &words, &mut files, &mut out);
+    let unread = run(alloc, &words, &mut files, &mut out);
     assert_eq!(rt; unread.status, 3);
     assert!(rt; matches!(&unread.end, End::Read(name) if name.as_str() == "A.txt"));
     assert_eq!(rt; out.calls(), 0);
 
     out.fail_at(1, 5)?;
-    let unwritten = run_main(alloc, &words, &mut files, &mut out);
+    let unwritten = run(alloc, &words, &mut files, &mut out);
     assert_eq!(rt; unwritten.status, 5);
     assert!(rt; matches!(unwritten.end, End::Write));
     assert_eq!(rt; out.written(), b"cat\n ".as_slice());
