@@ -1,4 +1,5 @@
-ghost use Rattle.std.specs.Prelude.{◌≡◌, IfOk};
+ghost use Rattle.std.specs.Prelude.{◌≡◌, IfOk, MatchOption, true, false};
+ghost use Rattle.std.specs.Str.{is_utf8};
 
 use crate::Memory;
 use std::alloc::Global;
@@ -26,6 +27,16 @@ impl Letters {
         Ok(Letters {
             text: String::from_str(alloc, text)?,
         })
+    }
+
+    /// The text of these bytes; None exactly where they aren't UTF-8. It takes no memory.
+    pub fn from_utf8(bytes: Vec<u8>) -> Option<Letters>
+        ensures { MatchOption result (is_utf8 bytes.items ≡ false) (λ letters. (is_utf8 bytes.items ≡ true) × (letters ≡ bytes.items)) }
+    {
+        match String::from_utf8(bytes) {
+            Ok(text) => Some(Letters { text }),
+            Err(_) => None,
+        }
     }
 
     /// The text itself.

@@ -1,16 +1,40 @@
-//! The types that every other crate stands on: lists, texts, and want of memory.
+//! The types that every other crate stands on: lists and texts, shapes of values and tables of named
+//! types, errors, reasons and notices.
 //!
-//! Model: contracts see a [`Seq`] as the list of its items and a [`Letters`] as the list of its
-//! UTF-8 bytes. Neither shows its allocator or its capacity.
+//! Model: contracts see a [`Seq`] as the list of its items, a [`Letters`] or a [`Name`] as the list
+//! of its bytes, a [`Shape`] as a plain tree, and a [`TypeTable`] as the finite map from IDs to named
+//! shapes together with the list of its blocks' names.
 //!
-//! The contract above which all layers build: a refused call leaves the list as it was, and every
-//! other call is exact.
+//! The contract above which all layers build: a table after [`TypeTable::add_block`] is the old map
+//! with the block, a refused one is the old map, and look-ups tell what the map has. A refused call
+//! leaves what it was lent as it was.
 #![tactic(auto)]
 
+mod block;
+mod declare;
+mod law;
 mod letters;
 mod memory;
+mod name;
+mod notice;
+mod reason;
+mod sec;
 mod seq;
+mod shape;
+mod table;
 
+pub use declare::{declare_field, declare_type};
+pub use law::block_joins;
 pub use letters::Letters;
 pub use memory::Memory;
-pub use seq::Seq;
+pub use name::{Name, NameFault};
+pub use notice::{Mid, Notice, Priority};
+pub use reason::Reason;
+pub use sec::Sec;
+pub use seq::{Octets, Places, Seq, TypeIds, Words};
+pub use shape::{Entry, Field, Shape, TypeId};
+pub use sqlite_items::{Boxed, Items};
+pub use table::{TableFault, TypeTable};
+
+#[cfg(test)]
+mod tests;

@@ -1,9 +1,21 @@
 ghost use Rattle.std.specs.Prelude.{◌≡◌, [], ◌∷◌, ◌++◌, ◌≤◌, ◌↔◌, length, slice_get, IsNone, OnOk, OnErr};
 ghost use Rattle.std.specs.Option.{option_copied};
 
-use crate::Memory;
+use crate::{Memory, TypeId};
 use std::alloc::Global;
 use std::marker::Model;
+
+/// Words of 64 bits, as values are spelled in.
+pub type Words = Seq<u64>;
+
+/// Bytes.
+pub type Octets = Seq<u8>;
+
+/// The IDs of types, in order.
+pub type TypeIds = Seq<TypeId>;
+
+/// Numbers of places.
+pub type Places = Seq<u32>;
 
 /// A list that only grows at its end, seen as the list of its items.
 ///

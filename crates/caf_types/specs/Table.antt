@@ -1,0 +1,138 @@
+-- Type tables: finite maps from IDs to named shapes, and when a block is refused.
+use Rattle.std.specs.Prelude.{ℕ, ◌+◌, ◌-◌, ◌==◌, ◌||◌, nat_lt, bytes_eq, if◌then◌else◌, Bool, true, false, List, [], ◌∷◌, ◌++◌, length, Option, Some, None, is_some, codes, slice_get}
+use Rattle.std.specs.List.{position_from}
+use Rattle.std.specs.Option.{option_map}
+use Rattle.caf_types.specs.Form.{Form, unit, flag, unsigned, signed, text, bytes, place, list, depth}
+
+-- a type: its name and its shape
+pub record Named : Type 0 where
+  pub name : List ℕ
+  pub shape : Form
+
+-- the types by their IDs, and the names of the blocks
+pub record Table : Type 0 where
+  pub types : List (ℕ × Named)
+  pub blocks : List (List ℕ)
+
+-- the first of two that is there
+abbrev pub or_else : {A : Type 0} → Option A → Option A → Option A
+or_else (Some x) y = Some x
+or_else None y = y
+
+-- ---- looking up
+
+abbrev pub type_at : List (ℕ × Named) → ℕ → Option Named
+type_at [] id = None
+type_at (t ∷ ts) id = if t.0 == id then Some t.1 else type_at ts id
+
+abbrev pub id_of : List (ℕ × Named) → List ℕ → Option ℕ
+id_of [] name = None
+id_of (t ∷ ts) name = if bytes_eq t.1.name name then Some t.0 else id_of ts name
+
+abbrev pub shape_at : Table → ℕ → Option Form
+shape_at t id = option_map (λ (n : Named). n.shape) (type_at t.types id)
+
+abbrev pub name_at : Table → ℕ → Option (List ℕ)
+name_at t id = option_map (λ (n : Named). n.name) (type_at t.types id)
+
+abbrev pub find : Table → List ℕ → Option ℕ
+find t name = id_of t.types name
+
+-- ---- a block
+
+-- types with IDs that rise by one in the order of declaration
+abbrev pub numbered : ℕ → List Named → List (ℕ × Named)
+numbered first [] = []
+numbered first (n ∷ ns) = (first, n) ∷ numbered (first + 1) ns
+
+abbrev pub with_block : Table → List ℕ → ℕ → List Named → Table
+with_block t block first ns = record { types = t.types ++ numbered first ns; blocks = t.blocks ++ block ∷ [] }
+
+-- the type that has an ID in a block
+abbrev pub type_in : ℕ → List Named → ℕ → Option Named
+type_in first ns id = if nat_lt id first then None else slice_get ns (id - first)
+
+abbrev pub shape_in : ℕ → List Named → ℕ → Option Form
+shape_in first ns id = option_map (λ (n : Named). n.shape) (type_in first ns id)
+
+abbrev pub name_in : ℕ → List Named → ℕ → Option (List ℕ)
+name_in first ns id = option_map (λ (n : Named). n.name) (type_in first ns id)
+
+-- the ID that a name has in a block
+abbrev pub find_in : ℕ → List Named → List ℕ → Option ℕ
+find_in first ns name = position_from (λ (n : Named). bytes_eq n.name name) first ns
+
+-- ---- the types that every table has
+
+abbrev pub named : List ℕ → Form → Named
+named name shape = record { name = name; shape = shape }
+
+abbrev pub built_in_types : List Named
+built_in_types =
+    named (codes "unit") unit ∷ named (codes "flag") flag ∷ named (codes "unsigned") unsigned ∷ named (codes "signed") signed
+    ∷ named (codes "text") text ∷ named (codes "bytes") bytes ∷ named (codes "place") place
+    ∷ named (codes "unsigneds") (list unsigned) ∷ named (codes "texts") (list text) ∷ named (codes "places") (list place) ∷ []
+
+abbrev pub built_in : Table
+built_in = record { types = numbered 0 built_in_types; blocks = [] }
+
+-- ---- refusing a block
+
+pub data Refusal : Type 0 where
+  out_of_range : Refusal
+  taken_id : ℕ → Refusal
+  taken_name : List ℕ → Refusal
+  too_deep : ℕ → Refusal
+
+-- the first ID from 200 to 65,534, and the last one at most 65,534
+abbrev pub is_out_of_range : ℕ → ℕ → Bool
+is_out_of_range first n = nat_lt first 200 || nat_lt 65534 first || nat_lt 65535 (first + n)
+
+abbrev pub has_id : List (ℕ × Named) → ℕ → Bool
+has_id ts id = is_some (type_at ts id)
+
+abbrev pub has_name : List (ℕ × Named) → List ℕ → Bool
+has_name ts name = is_some (id_of ts name)
+
+-- the least ID of the block that the table has
+abbrev pub first_taken : List (ℕ × Named) → ℕ → List Named → Option ℕ
+first_taken ts id [] = None
+first_taken ts id (n ∷ ns) = if has_id ts id then Some id else first_taken ts (id + 1) ns
+
+abbrev pub name_is_in : List (List ℕ) → List ℕ → Bool
+name_is_in [] name = false
+name_is_in (n ∷ ns) name = if bytes_eq n name then true else name_is_in ns name
+
+abbrev pub is_named_in : List Named → List ℕ → Bool
+is_named_in [] name = false
+is_named_in (n ∷ ns) name = if bytes_eq n.name name then true else is_named_in ns name
+
+-- the first name that a type of the table or an earlier entry has; front are the entries before ns
+abbrev pub first_name : List (ℕ × Named) → List Named → List Named → Option (List ℕ)
+first_name ts front [] = None
+first_name ts front (n ∷ ns) =
+    if has_name ts n.name then Some n.name
+    else if is_named_in front n.name then Some n.name
+    else first_name ts (front ++ n ∷ []) ns
+
+-- the least ID of the block whose shape nests past 16
+abbrev pub first_deep : ℕ → List Named → Option ℕ
+first_deep id [] = None
+first_deep id (n ∷ ns) = if nat_lt 16 (depth n.shape) then Some id else first_deep (id + 1) ns
+
+abbrev pub if_some : {A : Type 0} → (A → Refusal) → Option A → Option Refusal
+if_some f None = None
+if_some f (Some x) = Some (f x)
+
+abbrev pub so : Bool → Refusal → Option Refusal
+so true r = Some r
+so false r = None
+
+-- the first refusal, in the order in which they are tried
+abbrev pub refusal : Table → List ℕ → ℕ → List Named → Option Refusal
+refusal t block first ns =
+    or_else (so (is_out_of_range first (length ns)) out_of_range) (
+    or_else (if_some taken_id (first_taken t.types first ns)) (
+    or_else (so (name_is_in t.blocks block) (taken_name block)) (
+    or_else (if_some taken_name (first_name t.types [] ns))
+    (if_some too_deep (first_deep first ns)))))

@@ -1,0 +1,89 @@
+ghost use Rattle.std.specs.Prelude.{◌≡◌, nat_lt, IfOk};
+ghost use Rattle.caf_types.specs.Form.{list, object, depth, parts_depth};
+ghost use Rattle.caf_types.specs.Shape.{form, parts};
+
+use crate::{Memory, Name};
+use sqlite_items::{Boxed, Items};
+use std::alloc::Global;
+
+/// The number of a type. IDs 0 to 9 are built in, and blocks have IDs from 200 to 65,534.
+#[derive(Clone, Copy, Debug, PartialEq, Eq, Drop)]
+pub struct TypeId(pub u16);
+
+/// What the values of a type look like.
+#[derive(Debug, Drop)]
+#[cycle(shape)]
+pub enum Shape {
+    Unit,
+    Flag,
+    /// A whole number of 64 bits.
+    Unsigned,
+    /// A whole number of 64 bits in two's complement.
+    Signed,
+    Text,
+    Bytes,
+    /// The number of a place, below 256.
+    Place,
+    /// Any number of values of one shape.
+    List(Boxed<Shape>),
+    /// A value for each field, in declared order.
+    Object(Items<Field>),
+}
+
+/// A field of an object.
+#[derive(Debug, Drop)]
+#[cycle(shape)]
+pub struct Field {
+    pub name: Name,
+    pub shape: Shape,
+}
+
+/// A type that a block declares.
+#[derive(Debug, Drop)]
+pub struct Entry {
+    pub name: Name,
+    pub shape: Shape,
+}
+
+impl Shape {
+    /// The shape of lists of `item`.
+    pub fn list_of(alloc: Global, item: Shape) -> Result<Shape, Memory>
+        ensures { IfOk result (λ shape. form shape ≡ list (form item)) }
+    {
+        Ok(Shape::List(Boxed::new(alloc, item)?))
+    }
+
+    /// The shape of objects with these fields.
+    pub fn object_of(fields: Items<Field>) -> Shape
+        ensures { form result ≡ object (parts fields) }
+    {
+        Shape::Object(fields)
+    }
+}
+
+/// Whether a shape nests deeper than `limit`. A shape without parts nests 1.
+#[cycle(nests)]
+pub(crate) fn nests_past(shape: &Shape, limit: u64) -> bool
+    ensures { result ≡ nat_lt limit (depth (form shape.now)) }
+{
+    if limit == 0 {
+        return true;
+    }
+    match shape {
+        Shape::List(item) => nests_past(item.get(), limit - 1),
+        Shape::Object(fields) => fields_nest_past(fields.as_slice(), limit - 1),
+        _ => false,
+    }
+}
+
+#[cycle(nests)]
+fn fields_nest_past(fields: &[Field], limit: u64) -> bool
+    ensures { result ≡ nat_lt limit (parts_depth (parts fields.now)) }
+{
+    for field in fields {
+        if nests_past(&field.shape, limit) {
+            return true;
+        }
+    }
+    false
+}
