@@ -1,0 +1,6 @@
+pub mod Answer
+pub mod Datum
+pub mod Reading
+pub mod Several
+pub mod Spelling
+pub mod Value

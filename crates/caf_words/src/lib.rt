@@ -1,0 +1,27 @@
+//! Values, and the words of 64 bits that they are spelled in.
+//!
+//! Model: contracts see a [`Value`] as a plain tree. Which words are the spelling of a value of a
+//! shape is a relation over whole lists; reading word by word is proved to be the same relation, with
+//! the place of the first fault where no values have the words as their spellings.
+//!
+//! The contract that the layers above rest on: [`spell`] and [`read`] are one relation. A value has
+//! one spelling, no spelling begins another of its shape, and what was spelled is read again.
+#![tactic(auto)]
+
+mod law;
+mod reading;
+mod row;
+mod spelling;
+mod stop;
+mod text;
+mod value;
+
+pub use law::{spellings_are_prefix_free, spellings_are_read, values_are_spelled};
+pub use reading::read;
+pub use row::Row;
+pub use spelling::spell;
+pub use stop::SpellFault;
+pub use value::{Value, fits};
+
+#[cfg(test)]
+mod tests;
