@@ -1,13 +1,12 @@
 -- Values, their spellings, and what fits.
-use Rattle.std.proofs.Common.{◌≡◌, ℕ, zero, suc, ◌+◌, ◌<◌, Bool, true, false, ◌&&◌, List, [], ◌∷◌, ◌++◌, length, drop, map, Option, Some, None, refl, sym, ap, subst, ◌∙◌, append_assoc, add-one, arith}
-use Rattle.std.proofs.lemmas.List.{map-append, append-nil}
-use Rattle.std.proofs.lemmas.Option.{same_Some}
+use Rattle.std.proofs.Common.{◌≡◌, ℕ, suc, ◌+◌, Bool, true, false, ◌&&◌, List, [], ◌∷◌, ◌++◌, length, drop, map, Option, Some, None, refl, sym, ap, subst, ◌∙◌, add-one}
+use Rattle.std.proofs.lemmas.List.{map-append}
 use Rattle.std.specs.FinMap as finite
 use Rattle.std.specs.Option.{option_map}
-use Rattle.caf_types.specs.Form.{Form, unit, flag, unsigned, signed, text, bytes, place, list, object, Parts, no_parts, part}
-use Rattle.caf_types.specs.Table.{Named, Table, type_at, shape_at}
-use Rattle.caf_words.specs.Datum.{Datum, Data, no_data, more, data_of, count, fits, is_none, on_first}
-use Rattle.caf_words.specs.Spelling.{spelling, spellings, Spells, EachSpells, PartsSpell}
+use Rattle.caf_types.specs.Form.{Form}
+use Rattle.caf_types.specs.Table.{Named, Table, shape_at}
+use Rattle.caf_words.specs.Datum.{Datum, Data, no_data, more, data_of, count, fits, is_none}
+use Rattle.caf_words.specs.Spelling.{spelling, spellings, Spells}
 use Rattle.caf_words.specs.Several.{several_fit, SeveralSpell, shapes_at, joined, ShapesSpell, TypesSpell}
 use Rattle.caf_words.proofs.SpellingLemmas.{one_spelling}
 use Rattle.caf_words.proofs.RangeLemmas.{is_kept, and_true}

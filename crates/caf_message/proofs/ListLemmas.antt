@@ -1,7 +1,7 @@
 -- The first item that passes, by its place.
-use Rattle.std.proofs.Common.{◌≡◌, ℕ, zero, suc, ◌<◌, Bool, true, false, List, [], ◌∷◌, length, Option, Some, None, refl, arith}
+use Rattle.std.proofs.Common.{◌≡◌, ℕ, zero, suc, ◌<◌, Bool, true, false, List, [], ◌∷◌, length, Some, None, refl, arith}
 use Rattle.std.specs.Prelude.{slice_get, remove}
-use Rattle.caf_message.specs.Lists.{pick, keep}
+use Rattle.caf_message.specs.Lists.{pick}
 
 module _ {A : Type 0} (test : A → Bool) where
   -- no item before this place passes

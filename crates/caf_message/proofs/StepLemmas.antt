@@ -1,11 +1,11 @@
 -- Steps that reads, a test and writes add.
-use Rattle.std.proofs.Common.{◌≡◌, ℕ, zero, suc, ◌+◌, ◌-◌, ◌<◌, ◌≤◌, true, false, List, [], ◌∷◌, ◌++◌, length, take, drop, set, get_or, refl, sym, ap, subst, ◌∙◌, append_assoc, arith, Result, Ok, Err}
+use Rattle.std.proofs.Common.{◌≡◌, ℕ, ◌+◌, ◌-◌, ◌<◌, true, List, [], ◌∷◌, ◌++◌, length, take, drop, set, get_or, refl, sym, ap, subst, ◌∙◌, append_assoc, arith, Result, Ok, Err}
 use Rattle.std.proofs.lemmas.List.{append-nil, set-get_or, set-append_right, drop_more, take_more, length-take-le}
 use Rattle.std.specs.Result.{OnErr}
 use Rattle.caf_steps.specs.declared.step.Step.{Step}
-use Rattle.caf_steps.specs.declared.step.Step.TheVariants.{Make, Retain, Test, Read, Write}
+use Rattle.caf_steps.specs.declared.step.Step.TheVariants.{Test, Read, Write}
 use Rattle.caf_steps.specs.declared.reference.Reference.{Reference}
-use Rattle.caf_steps.specs.Reference.{fresh, tested, looked, reads_from, read, written}
+use Rattle.caf_steps.specs.Reference.{looked, reads_from, read, written}
 use Rattle.caf_steps.proofs.ReferenceLemmas.{looked-more}
 use Rattle.caf_tuple.specs.Tuple.{GaveUp}
 use Rattle.caf_message.specs.declared.replacing.Replaced.{Replaced}

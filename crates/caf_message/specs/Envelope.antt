@@ -1,9 +1,8 @@
 -- Envelopes in plain form, and their classes.
-use Rattle.std.specs.Prelude.{◌≡◌, ℕ, ◌&&◌, not, nat_lt, Bool, true, false, List, Option, Some, None, IsTrue}
+use Rattle.std.specs.Prelude.{◌≡◌, ℕ, ◌&&◌, not, nat_lt, Bool, true, false, List, Option, Some, None}
 use Rattle.caf_types.specs.declared.notice.Mid.{Mid}
 use Rattle.caf_types.specs.declared.notice.Notice.{Notice}
 use Rattle.caf_types.specs.declared.notice.Notice.TheVariants as notice
-use Rattle.caf_types.specs.declared.notice.Priority.{Priority}
 use Rattle.caf_types.specs.declared.notice.Priority.TheVariants as priority
 use Rattle.caf_message.specs.declared.envelope.Body.{Body}
 use Rattle.caf_message.specs.declared.envelope.Body.TheVariants as body

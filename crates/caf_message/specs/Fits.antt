@@ -1,5 +1,5 @@
 -- What a content means where each ID has a shape, and which contents fit a table.
-use Rattle.std.specs.Prelude.{◌≡◌, ℕ, List, [], ◌∷◌, map, Option, Some}
+use Rattle.std.specs.Prelude.{◌≡◌, ℕ, List, map, Option, Some}
 use Rattle.caf_types.specs.Form.{Form}
 use Rattle.caf_types.specs.Table.{Table, shape_at}
 use Rattle.caf_words.specs.Datum.{Data}

@@ -1,7 +1,7 @@
 -- What the calls of a message do to its reference.
-use Rattle.std.specs.Prelude.{◌≡◌, ◌≢◌, ℕ, ◌≤◌, true, false, List, [], ◌∷◌, ◌++◌, length}
+use Rattle.std.specs.Prelude.{◌≡◌, ◌≢◌, ℕ, ◌≤◌, true, List, [], ◌∷◌, ◌++◌, length}
 use Rattle.caf_steps.specs.declared.step.Step.{Step}
-use Rattle.caf_steps.specs.declared.step.Step.TheVariants.{Make, Retain, Test, Read, Write}
+use Rattle.caf_steps.specs.declared.step.Step.TheVariants.{Test, Read, Write}
 use Rattle.caf_steps.specs.declared.reference.Reference.{Reference}
 use Rattle.caf_steps.specs.Reference.{fresh, tested, looked}
 use Rattle.caf_message.specs.declared.replacing.Replaced.{Replaced}

@@ -51,7 +51,8 @@ impl Message {
         ensures refused { OnErr result (IsAsBefore self.old self.new) }
     {
         let content = row::content(alloc, row)?;
-        replace_words(&mut self.tuple, alloc, content.as_slice())
+        let replaced = replace_words(&mut self.tuple, alloc, content.as_slice())?;
+        Ok(replaced)
     }
 }
 

@@ -18,14 +18,6 @@ struct Add {
     right: i64,
 }
 
-fn add_types(alloc: Global) -> Result<TypeIds, Memory> {
-    let mut types = Seq::new(alloc);
-    types.push(TypeId(211))?;
-    types.push(TypeId(3))?;
-    types.push(TypeId(3))?;
-    Ok(types)
-}
-
 impl Row for Add {
     ghost ids = { 211 ∷ 3 ∷ 3 ∷ [] };
 
@@ -133,5 +125,65 @@ fn contents_are_shared_until_they_are_replaced(rt: HostRuntime) -> Result<(), Fa
         message.words(alloc)?.as_slice(),
         [3, 211, 3, 3, 0, 5, 6].as_slice()
     );
+    Ok(())
+}
+
+/// The table of the tests.
+fn calc_table(alloc: Global) -> Result<TypeTable, Fail> {
+    let mut table = TypeTable::new(alloc)?;
+    type_block!(alloc, table, calc, 211, { add: Unit, sub: Unit, mul: Unit, put: Unit, get: Unit })?;
+    Ok(table)
+}
+
+/// Whether the table has the types of the two rows.
+fn has_rows(table: &TypeTable) -> bool
+    ensures add { IsTrue result → HaveShapes (shape_at (seen table.now)) (211 ∷ 3 ∷ 3 ∷ []) (unit ∷ signed ∷ signed ∷ []) }
+    ensures get { IsTrue result → HaveShapes (shape_at (seen table.now)) (215 ∷ []) (unit ∷ []) }
+{
+    matches!(table.shape(TypeId(211)), Some(Shape::Unit))
+        && matches!(table.shape(TypeId(3)), Some(Shape::Signed))
+        && matches!(table.shape(TypeId(215)), Some(Shape::Unit))
+}
+
+#[test]
+fn a_view_needs_the_types_of_the_row(rt: HostRuntime) -> Result<(), Fail> {
+    let alloc = rt.alloc();
+    let table = calc_table(alloc)?;
+    if !has_rows(&table) {
+        return Err("types are missing".into());
+    }
+    let mut message = Message::of(alloc, &Add { left: 2, right: 3 })?;
+    let add = message.view::<Add>(alloc, &table)?;
+    assert_eq!(rt; (add.left, add.right), (2, 3));
+    let Err(fault) = message.view::<Get>(alloc, &table) else {
+        return Err("a message was viewed as a row of other types".into());
+    };
+    assert_eq!(rt; fault, ViewFault::Types);
+    Ok(())
+}
+
+/// A message of one element, of bytes.
+fn of_bytes(alloc: Global, length: usize) -> Result<Result<Message, MessageFault>, Fail> {
+    let table = TypeTable::new(alloc)?;
+    let value = Value::Bytes(Seq::of_vec(Vec::from_elem(alloc, 7u8, length)?));
+    let mut builder = MessageBuilder::new(alloc);
+    builder.push(&table, TypeId(5), &value)?;
+    Ok(builder.finish())
+}
+
+#[test]
+fn the_greatest_message_is_made_and_a_word_more_is_large(rt: HostRuntime) -> Result<(), Fail> {
+    let alloc = rt.alloc();
+    let mut greatest = of_bytes(alloc, 33_554_408)??;
+    let words = greatest.words(alloc)?;
+    assert_eq!(rt; words.len(), 4_194_304);
+    assert_eq!(rt; words.get(0).copied(), Some(1));
+    assert_eq!(rt; words.get(1).copied(), Some(5));
+    assert_eq!(rt; words.get(2).copied(), Some(33_554_408));
+    assert_eq!(rt; words.get(4_194_303).copied(), Some(0x0707_0707_0707_0707));
+    let Err(fault) = of_bytes(alloc, 33_554_409)? else {
+        return Err("a message of a word too many was made".into());
+    };
+    assert_eq!(rt; fault, MessageFault::Large);
     Ok(())
 }

@@ -1,4 +1,4 @@
-use Rattle.std.proofs.Common.{◌≡◌, ℕ, ◌+◌, ◌<◌, List, ◌++◌, length, take, drop, set, get_or, ap, ◌∙◌, arith}
+use Rattle.std.proofs.Common.{ℕ, ◌+◌, ◌<◌, List, ◌++◌, length, take, drop, set, get_or, ap, ◌∙◌, arith}
 use Rattle.caf_message.proofs.StepLemmas.{rewrites_again, rewrites_as, one_more}
 use Rattle.caf_message.proofs.replacing.rewrite.Goals as goal
 

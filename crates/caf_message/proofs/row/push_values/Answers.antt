@@ -1,7 +1,7 @@
-use Rattle.std.proofs.Common.{◌≡◌, ℕ, ◌+◌, ◌<◌, List, [], ◌∷◌, ◌++◌, length, take, drop, map, get_or, sym, ap, subst, ◌∙◌, append_assoc, arith}
+use Rattle.std.proofs.Common.{◌≡◌, ℕ, ◌+◌, ◌<◌, List, [], ◌∷◌, ◌++◌, length, take, drop, map, sym, ap, subst, ◌∙◌, append_assoc, arith}
 use Rattle.std.proofs.Math.Seq.{take-length}
 use Rattle.std.proofs.lemmas.List.{drop_more, take_more, map-append}
-use Rattle.caf_words.specs.Datum.{Datum, data_of}
+use Rattle.caf_words.specs.Datum.{data_of}
 use Rattle.caf_words.specs.Value.{datum}
 use Rattle.caf_words.specs.Spelling.{spelling, spellings, Spells}
 use Rattle.caf_words.specs.declared.value.Value.{Value}

@@ -1,4 +1,4 @@
-use Rattle.std.proofs.Common.{◌≡◌, ℕ, List, [], ◌∷◌, ◌++◌, sym, ap, subst, ◌∙◌}
+use Rattle.std.proofs.Common.{ℕ, List, ◌++◌, sym, ap, subst, ◌∙◌}
 use Rattle.caf_words.specs.Value.{datum}
 use Rattle.caf_words.specs.Spelling.{spelling, Spells}
 use Rattle.caf_message.specs.Builder.{Built, BuiltFits}
