@@ -96,7 +96,7 @@ counts n b lt e = and_true (lt-ltb n (2 ^ 64) lt) e
 
 -- ---- what fits and keeps to the ranges is spelled
 
-abbrev IsSpelled : (Datum → Bool) → (Datum → List ℕ → Type 0) → Type 0
+abbrev pub IsSpelled : (Datum → Bool) → (Datum → List ℕ → Type 0) → Type 0
 IsSpelled test S = (d : Datum) → test d ≡ true → is_in_range d ≡ true → S d (spelling d)
 
 each_spelled : (test : Datum → Bool) (S : Datum → List ℕ → Type 0) → IsSpelled test S → (ds : Data) → all_fit test ds ≡ true → are_in_range ds ≡ true → EachSpells S ds (spellings ds)
@@ -106,11 +106,11 @@ each_spelled test S s (more d ds) e r =
     let q = both (is_in_range d) (are_in_range ds) r in
     (spelling d, spellings ds, s d p.0 q.0, each_spelled test S s ds p.1 q.1, refl)
 
-none_spelled : (ds : Data) → is_none ds ≡ true → (ds ≡ no_data) × (spellings ds ≡ [])
+pub none_spelled : (ds : Data) → is_none ds ≡ true → (ds ≡ no_data) × (spellings ds ≡ [])
 none_spelled no_data e = (refl, refl)
 none_spelled (more d ds) e = absurd cc
 
-first_spelled : (test : Datum → Bool) (others : Data → Bool) (S : Datum → List ℕ → Type 0) (T : Data → List ℕ → Type 0) → IsSpelled test S
+pub first_spelled : (test : Datum → Bool) (others : Data → Bool) (S : Datum → List ℕ → Type 0) (T : Data → List ℕ → Type 0) → IsSpelled test S
     → ((ds : Data) → others ds ≡ true → are_in_range ds ≡ true → T ds (spellings ds)) → (ds : Data) → on_first test others ds ≡ true → are_in_range ds ≡ true
     → (e : Datum) × (es : Data) × (ds ≡ more e es) × (a : List ℕ) × (b : List ℕ) × S e a × T es b × (spellings ds ≡ a ++ b)
 first_spelled test others S T s t no_data e r = absurd cc
@@ -160,10 +160,10 @@ pub record AllKeep (test : Data → Bool) (ds : Data) (ws : List ℕ) : Type 0 w
   pub range : are_in_range ds ≡ true
   pub words : ws ≡ spellings ds
 
-abbrev IsKept : (Datum → Bool) → (Datum → List ℕ → Type 0) → Type 0
+abbrev pub IsKept : (Datum → Bool) → (Datum → List ℕ → Type 0) → Type 0
 IsKept test S = (d : Datum) (ws : List ℕ) → S d ws → Keeps test d ws
 
-abbrev AreKept : (Data → Bool) → (Data → List ℕ → Type 0) → Type 0
+abbrev pub AreKept : (Data → Bool) → (Data → List ℕ → Type 0) → Type 0
 AreKept test S = (ds : Data) (ws : List ℕ) → S ds ws → AllKeep test ds ws
 
 -- a value that is that other one
@@ -177,7 +177,7 @@ each_kept test S k (more d ds) ws s =
     let q = each_kept test S k ds s.1 s.3 in
     record { fits = and_true p.fits q.fits; range = and_true p.range q.range; words = s.4 ∙ rw (p.words, q.words) refl }
 
-first_kept : (test : Datum → Bool) (others : Data → Bool) (S : Datum → List ℕ → Type 0) (T : Data → List ℕ → Type 0) → IsKept test S → AreKept others T
+pub first_kept : (test : Datum → Bool) (others : Data → Bool) (S : Datum → List ℕ → Type 0) (T : Data → List ℕ → Type 0) → IsKept test S → AreKept others T
     → (ds : Data) (ws : List ℕ) → (e : Datum) × (es : Data) × (ds ≡ more e es) × (a : List ℕ) × (b : List ℕ) × S e a × T es b × (ws ≡ a ++ b) → AllKeep (on_first test others) ds ws
 first_kept test others S T k ks ds ws s =
     let p = k s.0 s.3 s.5 in

@@ -2,16 +2,19 @@
 use Rattle.std.proofs.Common.{◌≡◌, ℕ, zero, suc, ◌+◌, ◌-◌, ◌<◌, ◌≤◌, ltb, eqb, cond, Bool, true, false, List, [], ◌∷◌, ◌++◌, length, take, drop, get_or, Option, Some, None, Result, Ok, Err, refl, sym, ap, subst, ◌∙◌, arith}
 use Rattle.std.specs.Prelude.{is_some}
 use Rattle.std.specs.Int.{w64, cast_signed}
+use Rattle.std.specs.Option.{option_map}
 use Rattle.std.specs.Str.{is_utf8}
 use Rattle.std.proofs.lemmas.List.{length-drop, append-nil, drop_more}
 use Rattle.caf_types.specs.Form.{Form, unit, flag, unsigned, signed, text, bytes, place, list, object, Parts, no_parts, part, count_parts}
-use Rattle.caf_types.specs.Table.{Table, shape_at}
+use Rattle.caf_types.specs.Table.{Table, Named, shape_at, shape_in, type_at, type_in, numbered, or_else, with_block}
 use Rattle.caf_types.specs.declared.shape.TypeId.{TypeId}
-use Rattle.caf_words.specs.Datum.{Datum, a_text, some_bytes, a_list, an_object, an_unsigned, a_signed, Data, no_data, more}
-use Rattle.caf_words.specs.Spelling.{Spells, words_for}
+use Rattle.caf_words.specs.Datum.{Datum, a_text, some_bytes, a_list, an_object, an_unsigned, a_signed, Data, no_data, more, fits, is_none, are_in_range}
+use Rattle.caf_words.specs.Spelling.{Spells, spellings, words_for}
 use Rattle.caf_words.specs.Reading.{Got, ◌>>=◌, first_of, taken, one_word, unit_in, flag_in, place_in, are_zeros, bytes_in, unpacked, bytes_at, text_at, some_bytes_at, then_more, many, list_at, fields_after, object_at, reading, each_reading}
-use Rattle.caf_words.specs.Several.{ids_of, several, SeveralSpell, joined, shapes_at, ShapesSpell, TypesSpell, shapes_reading, ended, whole_reading}
+use Rattle.caf_words.specs.Several.{ids_of, several, several_fit, SeveralSpell, joined, shapes_at, ShapesSpell, TypesSpell, shapes_reading, ended, whole_reading}
+use Rattle.caf_types.proofs.TableLemmas.{type_joins, map_or_else}
 use Rattle.caf_words.proofs.PackingLemmas.{AreWords}
+use Rattle.caf_words.proofs.RangeLemmas.{is_spelled, is_kept, none_spelled, first_spelled, first_kept, AreKept, AllKeep}
 use Rattle.caf_words.proofs.SpellingLemmas.{Takes, is_sound, is_read, more_sound, more_again, bind_ok, ok_is, pair_is, got}
 
 pub several_sound : (fs : List Form) (ws : List ℕ) (ds : Data) (rest : List ℕ) → AreWords ws → several fs ws ≡ Ok (ds, rest) → Takes (SeveralSpell fs) ws ds rest
@@ -206,3 +209,31 @@ type_step t ids i d ws lt h =
     let e : drop i ids ≡ get_or ids i d ∷ drop (i + 1) ids = drop_more ids i d lt in
     let s = shapes_step (shape_at t (get_or ids i d).0) (shapes_at t (ids_of (drop (i + 1) ids))) ws (subst (λ (xs : List TypeId). is_some (shapes_at t (ids_of xs)) ≡ true) e h) in
     record { shape = s.shape; here = s.here; others = s.others; reads = ap (λ (xs : List TypeId). shapes_reading (shapes_at t (ids_of xs)) ws) e ∙ s.reads }
+
+-- ---- what fits several shapes is spelled, and nothing else
+
+pub several_spelled : (fs : List Form) (ds : Data) → several_fit fs ds ≡ true → are_in_range ds ≡ true → SeveralSpell fs ds (spellings ds)
+several_spelled [] = λ ds e r. none_spelled ds e
+several_spelled (f ∷ fs) = first_spelled (fits f) (several_fit fs) (Spells f) (SeveralSpell fs) (is_spelled f) (several_spelled fs)
+
+pub several_kept : (fs : List Form) → AreKept (several_fit fs) (SeveralSpell fs)
+several_kept [] = λ ds ws s. subst (λ xs. AllKeep is_none xs ws) (sym s.0) (record { fits = refl; range = refl; words = s.1 })
+several_kept (f ∷ fs) = first_kept (fits f) (several_fit fs) (Spells f) (SeveralSpell fs) (is_kept f) (several_kept fs)
+
+-- ---- types stay
+
+joined_both : (o : Option Form) (os : Option (List Form)) (fs : List Form) → joined o os ≡ Some fs → (f : Form) × (gs : List Form) × (o ≡ Some f) × (os ≡ Some gs) × (joined (Some f) (Some gs) ≡ Some fs)
+joined_both None os fs e = absurd cc
+joined_both (Some f) None fs e = absurd cc
+joined_both (Some f) (Some gs) fs e = (f, gs, refl, refl, e)
+
+shape_stays : (t : Table) (first : ℕ) (ns : List Named) (id : ℕ) (f : Form) → shape_at t id ≡ Some f → option_map (λ (n : Named). n.shape) (type_at (t.types ++ numbered first ns) id) ≡ Some f
+shape_stays t first ns id f e =
+    ap (option_map (λ (n : Named). n.shape)) (type_joins t.types first id ns) ∙ map_or_else (λ (n : Named). n.shape) (type_at t.types id) (type_in first ns id)
+    ∙ ap (λ (o : Option Form). or_else o (shape_in first ns id)) e
+
+pub types_stay : (t : Table) (block : List ℕ) (first : ℕ) (ns : List Named) (ids : List ℕ) (fs : List Form) → shapes_at t ids ≡ Some fs → shapes_at (with_block t block first ns) ids ≡ Some fs
+types_stay t block first ns [] fs e = e
+types_stay t block first ns (id ∷ ids) fs e =
+    let p = joined_both (shape_at t id) (shapes_at t ids) fs e in
+    rw (shape_stays t first ns id p.0 p.2, types_stay t block first ns ids p.1 p.3) p.4

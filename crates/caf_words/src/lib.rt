@@ -16,7 +16,7 @@ mod stop;
 mod text;
 mod value;
 
-pub use law::{spellings_are_prefix_free, spellings_are_read, values_are_spelled};
+pub use law::{spellings_are_prefix_free, spellings_are_read, types_stay, values_are_spelled};
 pub use reading::read;
 pub use row::Row;
 pub use spelling::spell;

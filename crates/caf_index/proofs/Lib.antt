@@ -1,0 +1,10 @@
+pub mod SortedLemmas
+pub mod NumberMapLemmas
+pub mod CountLemmas
+pub mod IndexLemmas
+pub mod TextLemmas
+pub mod WordLemmas
+pub mod EntryLemmas
+pub mod OccurrenceLemmas
+pub mod PlainIndexLemmas
+pub mod WordExamples

@@ -1,0 +1,5 @@
+pub mod Words
+pub mod Index
+pub mod PlainIndex
+pub mod IndexText
+pub mod NumberMap

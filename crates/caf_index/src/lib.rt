@@ -1,0 +1,21 @@
+//! Words, lines and the index: which word stands in which lines of which files.
+//!
+//! Model: contracts see an [`Index`] as a finite map from words (lists of bytes) to finite maps from
+//! file numbers to sets of line numbers, and a file as the list of its bytes.
+//!
+//! The contract above which later layers build: [`plain_index`] answers the index whose entries are
+//! exactly the (word, file number, line number) where the word stands in that line of that file, and
+//! [`index_text`] its text.
+#![tactic(auto)]
+
+mod index;
+mod number_map;
+mod plain;
+#[cfg(test)]
+mod tests;
+mod text;
+mod words;
+
+pub use index::Index;
+pub use plain::plain_index;
+pub use text::index_text;

@@ -1,0 +1,4 @@
+-- Lemmas by topic.
+mod ContentLemmas
+mod PrefixLemmas
+mod WritingLemmas

@@ -1,0 +1,17 @@
+use Rattle.std.proofs.Common.{◌≡◌, ℕ, ◌≤◌, ◌-◌, List, vec_len, IfSome}
+use Rattle.std.specs.Io.{StartsWith}
+use Rattle.caf_io.specs.Files.{told_file}
+use Rattle.caf_io.proofs.reading.append_rest.Given as goal
+
+-- a prefix of the file before is a prefix still, within the limit
+abbrev pub invariant-loop : goal.invariant-loop
+invariant-loop g l =
+    (IfSome (told_file (g.F.Files.told l.initial.files) l.name)
+    (λ file. StartsWith file l.initial.bytes.items → StartsWith file l.bytes.items))
+    × (vec_len l.bytes ≤ l.limit)
+    × (g.F.Files.told l.files ≡ g.F.Files.told l.initial.files)
+    × ((other : List ℕ) → g.F.Files.faults l.initial.files other ≤ g.F.Files.faults l.files other)
+
+-- each turn but the last reads a byte at least
+abbrev pub decreases-loop : goal.decreases-loop
+decreases-loop g l = l.limit - vec_len l.bytes
