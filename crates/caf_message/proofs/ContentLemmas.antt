@@ -59,4 +59,3 @@ id_at words c i within =
 
 pub number_at : (types : List TypeId) (i : ℕ) (blank : TypeId) → i < length types → get_or (ids_of types) i 0 ≡ (get_or types i blank).0
 number_at types i blank within = get_or-map (λ (id : TypeId). id.0) types i blank 0 within
-

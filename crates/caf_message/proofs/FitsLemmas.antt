@@ -105,9 +105,9 @@ length_shapes shape_of (id ∷ ids) (f ∷ fs) e =
 pub HaveShapes-push : (shape_of : ℕ → Option Form) (ids : List ℕ) (fs : List Form) (id : ℕ) (f : Form) → HaveShapes shape_of ids fs → shape_of id ≡ Some f → HaveShapes shape_of (ids ++ id ∷ []) (fs ++ f ∷ [])
 HaveShapes-push shape_of ids fs id f have one =
     map-append shape_of ids (id ∷ [])
-      ∙ ap (λ (xs : List (Option Form)). xs ++ shape_of id ∷ []) have
-      ∙ ap (λ (x : Option Form). map (λ (f : Form). Some f) fs ++ x ∷ []) one
-      ∙ sym (map-append (λ (f : Form). Some f) fs (f ∷ []))
+    ∙ ap (λ (xs : List (Option Form)). xs ++ shape_of id ∷ []) have
+    ∙ ap (λ (x : Option Form). map (λ (f : Form). Some f) fs ++ x ∷ []) one
+    ∙ sym (map-append (λ (f : Form). Some f) fs (f ∷ []))
 
 -- where more IDs have shapes, and those that had one keep it
 more_shapes : (little great : ℕ → Option Form) → ((id : ℕ) (f : Form) → little id ≡ Some f → great id ≡ Some f) → (ids : List ℕ) (fs : List Form) → HaveShapes little ids fs → HaveShapes great ids fs
@@ -245,9 +245,9 @@ spelled_behind t words ids fit same =
     let own : fit.ids ≡ ids = sym (same_ids words fit.ids fit.values fit.means.words_are) ∙ same in
     let found : shapes_at t ids ≡ Some fit.means.shapes = ap (shapes_at t) (sym own) ∙ shapes_found t fit.ids fit.means.shapes fit.means.have_shapes in
     let behind : spellings fit.values ≡ drop (length ids + 1) words =
-        sym (drop-content fit.ids fit.values) ∙ ap (drop (length fit.ids + 1)) (sym fit.means.words_are) ∙ ap (λ (xs : List ℕ). drop (length xs + 1) words) own in
+    sym (drop-content fit.ids fit.values) ∙ ap (drop (length fit.ids + 1)) (sym fit.means.words_are) ∙ ap (λ (xs : List ℕ). drop (length xs + 1) words) own in
     subst (λ (o : Option (List Form)). ShapesSpell o fit.values (drop (length ids + 1) words)) (sym found)
-      (subst (λ (ws : List ℕ). SeveralSpell fit.means.shapes fit.values ws) behind fit.means.are_values)
+    (subst (λ (ws : List ℕ). SeveralSpell fit.means.shapes fit.values ws) behind fit.means.are_values)
 
 -- values that are spelled there are what the content means
 pub means_of : (t : Table) (words ids : List ℕ) (fit : FitsTable t words) → ids_in words ≡ ids → (values : Data) → TypesSpell t ids values (drop (length ids + 1) words) → Means (shape_at t) words ids values
@@ -255,14 +255,14 @@ means_of t words ids fit same values spell =
     let own : fit.ids ≡ ids = sym (same_ids words fit.ids fit.values fit.means.words_are) ∙ same in
     let found : shapes_at t ids ≡ Some fit.means.shapes = ap (shapes_at t) (sym own) ∙ shapes_found t fit.ids fit.means.shapes fit.means.have_shapes in
     let behind : spellings fit.values ≡ drop (length ids + 1) words =
-        sym (drop-content fit.ids fit.values) ∙ ap (drop (length fit.ids + 1)) (sym fit.means.words_are) ∙ ap (λ (xs : List ℕ). drop (length xs + 1) words) own in
+    sym (drop-content fit.ids fit.values) ∙ ap (drop (length fit.ids + 1)) (sym fit.means.words_are) ∙ ap (λ (xs : List ℕ). drop (length xs + 1) words) own in
     let several : SeveralSpell fit.means.shapes values (drop (length ids + 1) words) = subst (λ (o : Option (List Form)). ShapesSpell o values (drop (length ids + 1) words)) found spell in
     record {
       shapes = fit.means.shapes;
       have_shapes = subst (λ (xs : List ℕ). HaveShapes (shape_at t) xs fit.means.shapes) own fit.means.have_shapes;
       are_values = several_values fit.means.shapes values (drop (length ids + 1) words) several;
       words_are = fit.means.words_are ∙ ap (λ (xs : List ℕ). length xs ∷ (xs ++ spellings fit.values)) own
-        ∙ ap (λ (ws : List ℕ). length ids ∷ (ids ++ ws)) (behind ∙ several_spelled fit.means.shapes values (drop (length ids + 1) words) several);
+          ∙ ap (λ (ws : List ℕ). length ids ∷ (ids ++ ws)) (behind ∙ several_spelled fit.means.shapes values (drop (length ids + 1) words) several);
     }
 
 pub means_fit : (shape_of : ℕ → Option Form) (words ids : List ℕ) (shapes : List Form) (values : Data) → HaveShapes shape_of ids shapes → Means shape_of words ids values → several_fit shapes values ≡ true

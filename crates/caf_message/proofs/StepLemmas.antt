@@ -107,10 +107,10 @@ one_more ws xs i within same =
     let behind : i < length xs = omega arith in
     let zero_left : i - i ≡ 0 = omega arith in
     set-append_right (take i ws) (drop i xs) i i word front (omega arith)
-      ∙ ap (λ (n : ℕ). take i ws ++ set (drop i xs) n word) zero_left
-      ∙ ap (λ (ys : List ℕ). take i ws ++ set ys 0 word) (drop_more xs i 0 behind)
-      ∙ sym (append_assoc (take i ws) (word ∷ []) (drop (i + 1) xs))
-      ∙ ap (λ (ys : List ℕ). ys ++ drop (i + 1) xs) (sym (take_more ws i 0 within))
+    ∙ ap (λ (n : ℕ). take i ws ++ set (drop i xs) n word) zero_left
+    ∙ ap (λ (ys : List ℕ). take i ws ++ set ys 0 word) (drop_more xs i 0 behind)
+    ∙ sym (append_assoc (take i ws) (word ∷ []) (drop (i + 1) xs))
+    ∙ ap (λ (ys : List ℕ). ys ++ drop (i + 1) xs) (sym (take_more ws i 0 within))
 
 -- what became sole and was then written is replaced
 pub replaced_by : (replaced : Replaced) (words : List ℕ) (old mid new : Reference) → length words ≡ length old.content → BecomesSole replaced old mid → Rewrites words mid new → Replaces replaced words old new

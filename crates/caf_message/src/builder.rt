@@ -53,10 +53,8 @@ impl MessageBuilder {
         requires { (shape : Form) × (shape_at (seen table.now) id.0 ≡ Some shape) × (fits shape (datum value.now) ≡ true) }
         ensures ids { OnOk result (self.new.ids ≡ self.old.ids ++ id.0 ∷ []) }
         ensures words { OnOk result (self.new.words ≡ self.old.words ++ spelling (datum value.now)) }
-        ensures fits {
-            (shape_of : ℕ → Option Form) → shape_of id.0 ≡ shape_at (seen table.now) id.0
-                → BuiltFits shape_of self.old → OnOk result (BuiltFits shape_of self.new)
-        }
+        ensures fits { (shape_of : ℕ → Option Form) → shape_of id.0 ≡ shape_at (seen table.now) id.0
+            → BuiltFits shape_of self.old → OnOk result (BuiltFits shape_of self.new) }
         ensures memory { OnErr result (self.new ≡ self.old) }
     {
         let words = spell(*self.words.allocator(), value)?;

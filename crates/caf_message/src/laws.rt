@@ -10,11 +10,9 @@ ghost use Rattle.caf_message.specs.Fits.{Means, FitsTable, FitsEntries};
 pub fn one_meaning()
     ensures { (shape_of : ℕ → Option Form) (words ids others : List ℕ) (values rivals : Data)
         → Means shape_of words ids values → Means shape_of words others rivals → (ids ≡ others) × (values ≡ rivals) }
-{
-}
+{}
 
 /// What fits some entries fits every table that has them.
 pub fn entries_fit_their_tables()
     ensures { (table : Table) (entries : TableEntries) (words : List ℕ) → HasEntries table entries → FitsEntries entries words → FitsTable table words }
-{
-}
+{}

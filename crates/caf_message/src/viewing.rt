@@ -33,7 +33,12 @@ impl Message {
 }
 
 /// The values of the content, where its IDs are these.
-fn values_as(tuple: &mut Tuple, alloc: Global, table: &TypeTable, types: &[TypeId]) -> Result<Seq<Value>, ViewFault>
+fn values_as(
+    tuple: &mut Tuple,
+    alloc: Global,
+    table: &TypeTable,
+    types: &[TypeId],
+) -> Result<Seq<Value>, ViewFault>
     requires { FitsTable (seen table.now) tuple.old.content }
     ensures types { TypesExactly result (ids_in tuple.old.content) (ids_of types.now) }
     ensures values { IfOk result (λ values. Means (shape_at (seen table.now)) tuple.old.content (ids_of types.now) (data_of (map datum values))) }
@@ -49,7 +54,12 @@ fn values_as(tuple: &mut Tuple, alloc: Global, table: &TypeTable, types: &[TypeI
 }
 
 /// The values that the words spell, where it is known that there are some.
-fn spelled_values(alloc: Global, table: &TypeTable, types: &[TypeId], words: &[u64]) -> Result<Seq<Value>, Memory>
+fn spelled_values(
+    alloc: Global,
+    table: &TypeTable,
+    types: &[TypeId],
+    words: &[u64],
+) -> Result<Seq<Value>, Memory>
     requires { (values : Data) × TypesSpell (seen table.now) (ids_of types.now) values words.now }
     ensures { IfOk result (λ values. TypesSpell (seen table.now) (ids_of types.now) (data_of (map datum values)) words.now) }
 {

@@ -16,16 +16,16 @@ loop-value-preserved c =
     let within : i < length values = omega arith in
     let next : drop i values ≡ value ∷ drop (i + 1) values = drop_more values i value within ∙ ap (λ (v : Value). v ∷ drop (i + 1) values) (sym c.value-item.is) in
     let front : map datum (take (i + 1) values) ≡ map datum (take i values) ++ datum value ∷ [] =
-        ap (map datum) (take_more values i value within ∙ ap (λ (v : Value). take i values ++ v ∷ []) (sym c.value-item.is)) ∙ map-append datum (take i values) (value ∷ []) in
+    ap (map datum) (take_more values i value within ∙ ap (λ (v : Value). take i values ++ v ∷ []) (sym c.value-item.is)) ∙ map-append datum (take i values) (value ∷ []) in
     let spelled : c.in_ok-spelling.spelling ≡ spelling (datum value) = c.in_ok-spelling.ensures.spelled in
     let added : c.push_words.new.words.items ≡ c.loop-value.words.items ++ spelling (datum value) =
-        c.in_ok-push_words.ensures.added ∙ ap (λ (ws : List ℕ). c.loop-value.words.items ++ ws) (c.as_slice.ensures ∙ spelled) in
+    c.in_ok-push_words.ensures.added ∙ ap (λ (ws : List ℕ). c.loop-value.words.items ++ ws) (c.as_slice.ensures ∙ spelled) in
     let sound : IsSound (datum value) = λ f fit. subst (λ (ws : List ℕ). Spells f (datum value) ws) spelled (c.in_ok-spelling.ensures.spells f fit) in
     record {
       words = ap (λ (ws : List ℕ). ws ++ spellings (data_of (map datum (drop (i + 1) values)))) added
-        ∙ append_assoc c.loop-value.words.items (spelling (datum value)) (spellings (data_of (map datum (drop (i + 1) values))))
-        ∙ ap (λ (vs : List Value). c.loop-value.words.items ++ spellings (data_of (map datum vs))) (sym next)
-        ∙ c.loop-value.invariant.words;
+          ∙ append_assoc c.loop-value.words.items (spelling (datum value)) (spellings (data_of (map datum (drop (i + 1) values))))
+          ∙ ap (λ (vs : List Value). c.loop-value.words.items ++ spellings (data_of (map datum vs))) (sym next)
+          ∙ c.loop-value.invariant.words;
       sound = subst AreSound (sym front) (AreSound-push (map datum (take i values)) (datum value) c.loop-value.invariant.sound sound);
     }
 

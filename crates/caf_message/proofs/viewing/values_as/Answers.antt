@@ -22,7 +22,7 @@ spelled_values-requires c =
     let same : ids_in content ≡ ids_of types = c.if-not-has_types.ensures.answer.0 refl in
     let kept : c.has_types.new.tuple.content ≡ content = ap (λ (r : Reference). r.content) c.if-not-has_types.ensures.head in
     let behind : drop (length (ids_of types) + 1) content ≡ c.as_slice.result.now =
-        ap (λ (n : ℕ). drop (n + 1) content) (length-ids_of types) ∙ ap (λ (ws : List ℕ). drop (length types + 1) ws) (sym kept) ∙ sym c.in_ok-words.ensures.words ∙ sym c.as_slice.ensures.value in
+    ap (λ (n : ℕ). drop (n + 1) content) (length-ids_of types) ∙ ap (λ (ws : List ℕ). drop (length types + 1) ws) (sym kept) ∙ sym c.in_ok-words.ensures.words ∙ sym c.as_slice.ensures.value in
     (c.requires.values, subst (λ (ws : List ℕ). TypesSpell table (ids_of types) c.requires.values ws) behind (spelled_behind table content (ids_of types) c.requires same))
 
 pub returns-clause-values : goal.returns-clause-values
@@ -33,6 +33,6 @@ returns-clause-values c =
     let same : ids_in content ≡ ids_of types = c.if-not-has_types.ensures.answer.0 refl in
     let kept : c.has_types.new.tuple.content ≡ content = ap (λ (r : Reference). r.content) c.if-not-has_types.ensures.head in
     let behind : drop (length (ids_of types) + 1) content ≡ c.as_slice.result.now =
-        ap (λ (n : ℕ). drop (n + 1) content) (length-ids_of types) ∙ ap (λ (ws : List ℕ). drop (length types + 1) ws) (sym kept) ∙ sym c.in_ok-words.ensures.words ∙ sym c.as_slice.ensures.value in
+    ap (λ (n : ℕ). drop (n + 1) content) (length-ids_of types) ∙ ap (λ (ws : List ℕ). drop (length types + 1) ws) (sym kept) ∙ sym c.in_ok-words.ensures.words ∙ sym c.as_slice.ensures.value in
     means_of table content (ids_of types) c.requires same (data_of (map datum c.in_ok-values.values))
-      (subst (λ (ws : List ℕ). TypesSpell table (ids_of types) (data_of (map datum c.in_ok-values.values)) ws) (sym behind) c.in_ok-values.ensures)
+    (subst (λ (ws : List ℕ). TypesSpell table (ids_of types) (data_of (map datum c.in_ok-values.values)) ws) (sym behind) c.in_ok-values.ensures)

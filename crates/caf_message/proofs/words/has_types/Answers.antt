@@ -18,8 +18,7 @@ returns-then-word-id-clause-answer c =
     let within : i < length (ids_in words) = omega (arith, count, first) in
     let here : i < length types = omega arith in
     let read : c.word-in-loop-i.result ≡ get_or (ids_in words) i 0 =
-        c.word-in-loop-i.ensures.value ∙ ap (λ (r : Reference). get_or r.content (i + 1) 0) c.loop-i.invariant.looked ∙ id_at words c.requires i within in
-    (
+    c.word-in-loop-i.ensures.value ∙ ap (λ (r : Reference). get_or r.content (i + 1) 0) c.loop-i.invariant.looked ∙ id_at words c.requires i within in (
       λ e. absurd cc,
       λ same. absurd (c.if-word-id.true (read ∙ ap (λ (ids : List ℕ). get_or ids i 0) same ∙ number_at types i record { 0 = 0 } here)),
     )
@@ -51,7 +50,7 @@ loop-i-preserved c =
     let here : i < length types = omega arith in
     let there : i < length (ids_of types) = omega (arith, length-ids_of types, here) in
     let read : c.word-in-loop-i.result ≡ get_or (ids_in words) i 0 =
-        c.word-in-loop-i.ensures.value ∙ ap (λ (r : Reference). get_or r.content (i + 1) 0) c.loop-i.invariant.looked ∙ id_at words c.requires i inside in
+    c.word-in-loop-i.ensures.value ∙ ap (λ (r : Reference). get_or r.content (i + 1) 0) c.loop-i.invariant.looked ∙ id_at words c.requires i inside in
     let equal : c.word-in-loop-i.result ≡ (get_or types i record { 0 = 0 }).0 = c.if-word-id.false in
     record {
       same = take_more_same (ids_in words) (ids_of types) i 0 inside there c.loop-i.invariant.same (sym read ∙ equal ∙ sym (number_at types i record { 0 = 0 } here));

@@ -12,4 +12,4 @@ pub from_values-requires : goal.from_values-requires
 from_values-requires g c =
     let ids : ids_of c.as_slice.result.now ≡ g.T.Row.ids = ap ids_of c.as_slice.ensures ∙ c.in_ok-types.ensures in
     means_fit (shape_at (seen c.args.table.now)) c.self.inside.tuple.content g.T.Row.ids g.T.Row.shapes (data_of (map datum c.in_ok-values.values)) c.requires.row_fits
-      (subst (λ (xs : List ℕ). Means (shape_at (seen c.args.table.now)) c.self.inside.tuple.content xs (data_of (map datum c.in_ok-values.values))) ids c.in_ok-values.ensures.values)
+    (subst (λ (xs : List ℕ). Means (shape_at (seen c.args.table.now)) c.self.inside.tuple.content xs (data_of (map datum c.in_ok-values.values))) ids c.in_ok-values.ensures.values)
