@@ -1,5 +1,5 @@
-ghost use Rattle.std.specs.Prelude.{◌≡◌, ◌×◌, [], ◌∷◌, refl, IsTrue, IfOk};
-ghost use Rattle.caf_types.specs.Form.{unit, signed, bytes};
+ghost use Rattle.std.specs.Prelude.{◌≡◌, [], ◌∷◌, refl, IsTrue, IfOk};
+ghost use Rattle.caf_types.specs.Form.{unit, signed};
 ghost use Rattle.caf_types.specs.Table.{shape_at};
 ghost use Rattle.caf_types.specs.TypeTable.{seen};
 ghost use Rattle.caf_words.specs.Datum.{a_unit, a_signed, no_data, more};
@@ -7,7 +7,7 @@ ghost use Rattle.caf_message.specs.Fits.{HaveShapes};
 
 use crate::{Message, MessageBuilder, MessageFault, Replaced, ViewFault};
 use caf_types::{Memory, Seq, Shape, TypeId, TypeIds, TypeTable, type_block};
-use caf_words::{Row, Value};
+use caf_words::{Row, Value, fits};
 use std::alloc::Global;
 use std::test::Fail;
 
@@ -167,8 +167,25 @@ fn of_bytes(alloc: Global, length: usize) -> Result<Result<Message, MessageFault
     let table = TypeTable::new(alloc)?;
     let value = Value::Bytes(Seq::of_vec(Vec::from_elem(alloc, 7u8, length)?));
     let mut builder = MessageBuilder::new(alloc);
-    builder.push(&table, TypeId(5), &value)?;
+    push_checked(&mut builder, &table, TypeId(5), &value)?;
     Ok(builder.finish())
+}
+
+/// Adds an element after a look at its shape.
+fn push_checked(
+    builder: &mut MessageBuilder,
+    table: &TypeTable,
+    id: TypeId,
+    value: &Value,
+) -> Result<(), Fail> {
+    let Some(shape) = table.shape(id) else {
+        return Err("no such type".into());
+    };
+    if !fits(value, shape) {
+        return Err("a value of another shape".into());
+    }
+    builder.push(table, id, value)?;
+    Ok(())
 }
 
 #[test]
