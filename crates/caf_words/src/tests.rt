@@ -3,7 +3,9 @@ ghost use Rattle.caf_types.specs.Form.{unit};
 ghost use Rattle.caf_words.specs.Datum.{a_unit, no_data, more};
 
 use crate::{Row, SpellFault, Value, fits, read, spell};
-use caf_types::{Items, Letters, Memory, Octets, Seq, Shape, TypeId, TypeIds, TypeTable};
+use caf_types::{
+    Items, Letters, Memory, NameFault, Octets, Seq, Shape, TableFault, TypeId, TypeIds, TypeTable,
+};
 use std::alloc::Global;
 use std::test::Fail;
 
@@ -126,6 +128,39 @@ fn a_value_fits_its_shape(rt: HostRuntime) -> Result<(), Fail> {
         )
     );
     assert!(rt; !fits(&numbers(alloc, 7, 8)?, &Shape::list_of(alloc, Shape::Flag)?));
+    Ok(())
+}
+
+#[test]
+fn faults_have_texts(rt: HostRuntime) -> Result<(), Fail> {
+    let alloc = rt.alloc();
+    for (text, expected) in [
+        (
+            format!(in alloc; "{}", SpellFault::At(3))?,
+            "no spelling: fault at word 3",
+        ),
+        (
+            format!(in alloc; "{}", SpellFault::Memory)?,
+            "out of memory",
+        ),
+        (format!(in alloc; "{}", NameFault::Form)?, "not a name"),
+        (format!(in alloc; "{}", NameFault::Memory)?, "out of memory"),
+        (
+            format!(in alloc; "{}", TableFault::Range)?,
+            "a type's ID is out of range",
+        ),
+        (
+            format!(in alloc; "{}", TableFault::Taken(TypeId(200)))?,
+            "a type's ID is taken",
+        ),
+        (
+            format!(in alloc; "{}", TableFault::Deep(TypeId(200)))?,
+            "a shape nests too deep",
+        ),
+        (format!(in alloc; "{}", Memory)?, "out of memory"),
+    ] {
+        assert_eq!(rt; text.as_str(), expected);
+    }
     Ok(())
 }
 
