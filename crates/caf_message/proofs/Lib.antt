@@ -1,0 +1,4 @@
+pub mod ContentLemmas
+pub mod FitsLemmas
+pub mod StepLemmas
+pub mod ListLemmas

@@ -1,0 +1,128 @@
+ghost use Rattle.std.specs.Prelude.{◌≡◌, ◌<◌, ℕ, true, length, slice_set, Option, IfOk, OnOk, OnErr};
+ghost use Rattle.caf_types.specs.Form.{Form};
+ghost use Rattle.caf_steps.specs.Reference.{fresh};
+ghost use Rattle.caf_message.specs.Content.{content_of, ids_in};
+ghost use Rattle.caf_message.specs.Fits.{Fits, HaveShapes};
+ghost use Rattle.caf_message.specs.Message.{IsAsBefore, BecomesSole, Rewrites, Replaces};
+ghost use Rattle.caf_message.specs.declared.replacing.Replaced.TheVariants.{Fresh};
+ghost use Rattle.caf_tuple.specs.Tuple.{GaveUp};
+ghost use Rattle.caf_message.specs.Answers.{LargeExactly};
+
+use crate::{Message, MessageFault, row};
+use caf_tuple::{Owned, Tuple};
+use caf_types::Memory;
+use caf_words::Row;
+use std::alloc::Global;
+
+/// How [`Message::replace`] changed the content.
+#[derive(Clone, Copy, Debug, PartialEq, Eq, Drop)]
+pub enum Replaced {
+    /// The length changed, so the content is in a new tuple.
+    Fresh,
+    /// No other message shared the tuple, and it was written in place.
+    InPlace,
+    /// So many messages shared the tuple, at least 2: it was copied, and the copy was written.
+    Copied(u64),
+}
+
+impl Message {
+    /// A message of the row's types and values. `Large` exactly where its content is over 4,194,304
+    /// words.
+    pub fn of<T: Row>(alloc: Global, row: &T) -> Result<Message, MessageFault>
+        ensures made { IfOk result (λ message. message ≡ fresh (content_of T.ids (T.means row.now))) }
+        ensures large { LargeExactly result (content_of T.ids (T.means row.now)) }
+        ensures fits { (shape_of : ℕ → Option Form) → HaveShapes shape_of T.ids T.shapes → OnOk result (Fits shape_of (content_of T.ids (T.means row.now))) }
+    {
+        let content = row::content(alloc, row)?;
+        let tuple = Tuple::make(alloc, content.as_slice())?;
+        Ok(Message { tuple })
+    }
+
+    /// Makes the content the row's. Other messages keep theirs.
+    ///
+    /// `Large` exactly where the content would be over 4,194,304 words. After a refusal the content
+    /// is as before, and the steps grew by at most one test and by reads.
+    pub fn replace<T: Row>(&mut self, alloc: Global, row: &T) -> Result<Replaced, MessageFault>
+        requires { ids_in self.old.content ≡ T.ids }
+        ensures content { OnOk result (self.new.content ≡ content_of T.ids (T.means row.now)) }
+        ensures answer { IfOk result (λ replaced. Replaces replaced (content_of T.ids (T.means row.now)) self.old self.new) }
+        ensures large { LargeExactly result (content_of T.ids (T.means row.now)) }
+        ensures fits { (shape_of : ℕ → Option Form) → HaveShapes shape_of T.ids T.shapes → OnOk result (Fits shape_of self.new.content) }
+        ensures refused { OnErr result (IsAsBefore self.old self.new) }
+    {
+        let content = row::content(alloc, row)?;
+        let replaced = replace_words(&mut self.tuple, alloc, content.as_slice())?;
+        Ok(replaced)
+    }
+}
+
+/// Makes the content these words.
+fn replace_words(tuple: &mut Tuple, alloc: Global, words: &[u64]) -> Result<Replaced, MessageFault>
+    ensures answer { IfOk result (λ replaced. Replaces replaced words.now tuple.old tuple.new) }
+    ensures content { OnOk result (tuple.new.content ≡ words.now) }
+    ensures large { LargeExactly result words.now }
+    ensures refused { OnErr result (IsAsBefore tuple.old tuple.new) }
+{
+    if words.len() as u64 == tuple.len() {
+        Ok(write_over(tuple, alloc, words)?)
+    } else {
+        renew(tuple, alloc, words)
+    }
+}
+
+/// Puts the words into a new block.
+fn renew(tuple: &mut Tuple, alloc: Global, words: &[u64]) -> Result<Replaced, MessageFault>
+    ensures answer { IfOk result (λ replaced. (replaced ≡ Fresh) × (tuple.new ≡ fresh words.now)) }
+    ensures large { LargeExactly result words.now }
+    ensures refused { OnErr result (tuple.new ≡ tuple.old) }
+{
+    *tuple = Tuple::make(alloc, words)?;
+    Ok(Replaced::Fresh)
+}
+
+/// Writes as many words as stand there.
+fn write_over(tuple: &mut Tuple, alloc: Global, words: &[u64]) -> Result<Replaced, Memory>
+    requires { length words.now ≡ length tuple.old.content }
+    ensures answer { IfOk result (λ replaced. Replaces replaced words.now tuple.old tuple.new) }
+    ensures content { OnOk result (tuple.new.content ≡ words.now) }
+    ensures refused { OnErr result (IsAsBefore tuple.old tuple.new) }
+{
+    let replaced = own(tuple, alloc)?;
+    rewrite(tuple, words);
+    Ok(replaced)
+}
+
+/// Makes the reference sole.
+fn own(tuple: &mut Tuple, alloc: Global) -> Result<Replaced, Memory>
+    ensures answer { IfOk result (λ replaced. BecomesSole replaced tuple.old tuple.new) }
+    ensures sole { OnOk result (tuple.new.sole ≡ true) }
+    ensures content { OnOk result (tuple.new.content ≡ tuple.old.content) }
+    ensures refused { OnErr result (GaveUp tuple.old tuple.new) }
+{
+    match tuple.own(alloc)? {
+        Owned::Kept => Ok(Replaced::InPlace),
+        Owned::Copied { count, before: _ } => Ok(Replaced::Copied(count)),
+    }
+}
+
+/// Writes the words that differ into a sole reference.
+fn rewrite(tuple: &mut Tuple, words: &[u64])
+    requires sole { tuple.old.sole ≡ true }
+    requires same_length { length words.now ≡ length tuple.old.content }
+    ensures { Rewrites words.now tuple.old tuple.new }
+{
+    for (i, word) in words.iter().enumerate() {
+        write_at(tuple, i as u64, *word);
+    }
+}
+
+/// Writes the word where another one stands.
+fn write_at(tuple: &mut Tuple, i: u64, word: u64)
+    requires sole { tuple.old.sole ≡ true }
+    requires within { i < length tuple.old.content }
+    ensures { Rewrites (slice_set tuple.old.content i word) tuple.old tuple.new }
+{
+    if tuple.word(i) != word {
+        tuple.set(i, word);
+    }
+}
