@@ -4,7 +4,7 @@ ghost use Rattle.caf_steps.specs.Reference.{fresh};
 ghost use Rattle.caf_message.specs.Content.{content_of, ids_in};
 ghost use Rattle.caf_message.specs.Fits.{Fits, HaveShapes};
 ghost use Rattle.caf_message.specs.Message.{IsAsBefore, BecomesSole, Rewrites, Replaces};
-ghost use Rattle.caf_message.specs.declared.replacing.Replaced.TheVariants.{Fresh};
+ghost use Rattle.caf_message.specs.declared.replacing.Replaced.TheVariants.{Fresh, InPlace};
 ghost use Rattle.caf_tuple.specs.Tuple.{GaveUp};
 ghost use Rattle.caf_message.specs.Answers.{LargeExactly};
 
@@ -38,7 +38,8 @@ impl Message {
         Ok(Message { tuple })
     }
 
-    /// Makes the content the row's. Other messages keep theirs.
+    /// Makes the content the row's. Other messages keep theirs. A sole message whose length stays is
+    /// written in place.
     ///
     /// `Large` exactly where the content would be over 4,194,304 words. After a refusal the content
     /// is as before, and the steps grew by at most one test and by reads.
@@ -46,6 +47,8 @@ impl Message {
         requires { ids_in self.old.content ≡ T.ids }
         ensures content { OnOk result (self.new.content ≡ content_of T.ids (T.means row.now)) }
         ensures answer { IfOk result (λ replaced. Replaces replaced (content_of T.ids (T.means row.now)) self.old self.new) }
+        ensures sole_in_place { self.old.sole ≡ true → length (content_of T.ids (T.means row.now)) ≡ length self.old.content
+            → IfOk result (λ replaced. replaced ≡ InPlace) }
         ensures large { LargeExactly result (content_of T.ids (T.means row.now)) }
         ensures fits { (shape_of : ℕ → Option Form) → HaveShapes shape_of T.ids T.shapes → OnOk result (Fits shape_of self.new.content) }
         ensures refused { OnErr result (IsAsBefore self.old self.new) }
@@ -60,6 +63,8 @@ impl Message {
 fn replace_words(tuple: &mut Tuple, alloc: Global, words: &[u64]) -> Result<Replaced, MessageFault>
     ensures answer { IfOk result (λ replaced. Replaces replaced words.now tuple.old tuple.new) }
     ensures content { OnOk result (tuple.new.content ≡ words.now) }
+    ensures sole_in_place { tuple.old.sole ≡ true → length words.now ≡ length tuple.old.content
+        → IfOk result (λ replaced. replaced ≡ InPlace) }
     ensures large { LargeExactly result words.now }
     ensures refused { OnErr result (IsAsBefore tuple.old tuple.new) }
 {
@@ -85,6 +90,7 @@ fn write_over(tuple: &mut Tuple, alloc: Global, words: &[u64]) -> Result<Replace
     requires { length words.now ≡ length tuple.old.content }
     ensures answer { IfOk result (λ replaced. Replaces replaced words.now tuple.old tuple.new) }
     ensures content { OnOk result (tuple.new.content ≡ words.now) }
+    ensures sole_in_place { tuple.old.sole ≡ true → IfOk result (λ replaced. replaced ≡ InPlace) }
     ensures refused { OnErr result (IsAsBefore tuple.old tuple.new) }
 {
     let replaced = own(tuple, alloc)?;
@@ -97,6 +103,7 @@ fn own(tuple: &mut Tuple, alloc: Global) -> Result<Replaced, Memory>
     ensures answer { IfOk result (λ replaced. BecomesSole replaced tuple.old tuple.new) }
     ensures sole { OnOk result (tuple.new.sole ≡ true) }
     ensures content { OnOk result (tuple.new.content ≡ tuple.old.content) }
+    ensures sole_in_place { tuple.old.sole ≡ true → IfOk result (λ replaced. replaced ≡ InPlace) }
     ensures refused { OnErr result (GaveUp tuple.old tuple.new) }
 {
     match tuple.own(alloc)? {

@@ -53,9 +53,5 @@ pub(crate) fn copied(tuple: &mut Tuple, alloc: Global) -> Result<Tuple, Memory>
     ensures all { OnOk result (tuple.new ≡ looked (length tuple.old.content) tuple.old) }
     ensures looked { HasLooked tuple.old tuple.new }
 {
-    let words = words_from(tuple, alloc, 0)?;
-    match Tuple::make(alloc, words.as_slice()) {
-        Ok(copy) => Ok(copy),
-        Err(_) => Err(Memory),
-    }
+    Ok(tuple.copy(alloc)?)
 }

@@ -1,6 +1,7 @@
 ghost use Rattle.std.specs.Prelude.{◌≡◌, ℕ, ◌↔◌, ◌+◌, ◌<◌, ◌≤◌, true, [], ◌∷◌, ◌++◌, drop, length, IfOk, OnOk, OnErr, IsErrOf, slice_index};
 ghost use Rattle.caf_steps.specs.Reference.{fresh, retained, second, tested, read, written, looked};
 ghost use Rattle.caf_tuple.specs.Tuple.{Owns, GaveUp};
+ghost use Rattle.caf_tuple.specs.declared.tuple.Owned.TheVariants.{Kept};
 
 use crate::block::{Block, Counted, MOST_WORDS};
 use crate::fault::TupleFault;
@@ -132,12 +133,27 @@ impl Tuple {
         self.held.set(&self.block, i as usize, v);
     }
 
-    /// Makes the reference sole, with the same content, by one test and at most one copy.
+    /// A tuple of its own with the same content. Each word is read once, in order.
+    ///
+    /// After want of memory the content is as before, and the steps grew by reads of the first words.
+    pub fn copy(&mut self, alloc: Global) -> Result<Tuple, Memory>
+        ensures copied { IfOk result (λ tuple. tuple ≡ fresh self.old.content) }
+        ensures looked { OnOk result (self.new ≡ looked (length self.old.content) self.old) }
+        ensures memory { OnErr result ((n : ℕ) × (n ≤ length self.old.content) × (self.new ≡ looked n self.old)) }
+    {
+        let laid = self.copy_words(alloc)?;
+        let copy = of_words(alloc, laid)?;
+        Ok(copy)
+    }
+
+    /// Makes the reference sole, with the same content, by one test and at most one copy. A sole
+    /// reference is kept.
     ///
     /// After want of memory the content is as before. The steps grew by the one test, which read at
     /// least 2, and by reads.
     pub fn own(&mut self, alloc: Global) -> Result<Owned, Memory>
         ensures owned { IfOk result (λ owned. Owns owned self.old self.new) }
+        ensures sole { self.old.sole ≡ true → IfOk result (λ owned. owned ≡ Kept) }
         ensures memory { OnErr result (GaveUp self.old self.new) }
     {
         let count = self.test();
