@@ -1,0 +1,18 @@
+use Rattle.std.proofs.Common.{map, drop, subst, sym, List, arith}
+use Rattle.caf_words.specs.Datum.{data_of}
+use Rattle.caf_inspect.specs.Event.{Event, events, each_events}
+use Rattle.caf_inspect.specs.Tells.{Tells}
+use Rattle.caf_inspect.proofs.Telling.{tells_append, tells_none}
+use Rattle.caf_inspect.proofs.Loops.{each_more, each_done}
+use Rattle.caf_inspect.proofs.lists.save_each.Goals as goal
+
+pub loop-item-init : goal.loop-item-init
+loop-item-init g c = λ new h. h
+
+pub loop-item-preserved : goal.loop-item-preserved
+loop-item-preserved g c = λ new h.
+    c.loop-item.invariant new (rw (each_more g.T.Inspect.means (events g.T.Inspect.shape) c.args.items.now c.loop-item.item-index c.item-item.result c.loop-item-test.true c.item-item.is) (tells_append c.in_ok-save.ensures h))
+
+pub returns : goal.returns
+returns g c =
+    c.loop-item.invariant _ (rw (each_done g.T.Inspect.means (events g.T.Inspect.shape) c.args.items.now c.loop-item.item-index c.loop-item-test.false) tells_none)

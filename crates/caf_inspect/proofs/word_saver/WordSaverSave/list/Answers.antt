@@ -1,0 +1,6 @@
+use Rattle.std.proofs.Common.{arith}
+use Rattle.caf_inspect.proofs.WordTelling.{word_told}
+use Rattle.caf_inspect.proofs.word_saver.WordSaverSave.list.Goals as goal
+
+pub returns : goal.returns
+returns c = word_told c.in_ok-add.ensures (omega (arith, c.ranges.length))

@@ -1,0 +1,5 @@
+use Rattle.caf_inspect.proofs.WordTelling.{word_told}
+use Rattle.caf_inspect.proofs.word_saver.WordSaverSave.place.Goals as goal
+
+pub returns : goal.returns
+returns c = word_told c.in_ok-add.ensures tt

@@ -1,0 +1,16 @@
+-- The events that the loaders have left.
+use Rattle.std.specs.Prelude.{List}
+use Rattle.caf_inspect.specs.Event.{Event}
+use Rattle.caf_inspect.specs.Item.{events_in}
+use Rattle.caf_inspect.specs.declared.queue.EventQueue.{EventQueue}
+use Rattle.caf_inspect.specs.declared.json_loader.JsonLoader.{JsonLoader}
+use Rattle.caf_inspect.specs.declared.word_loader.WordLoader.{WordLoader}
+
+abbrev pub queue_left : EventQueue → List Event
+queue_left queue = events_in queue.items.items
+
+abbrev pub json_left : JsonLoader → List Event
+json_left loader = queue_left loader.events
+
+abbrev pub word_left : WordLoader → List Event
+word_left loader = queue_left loader.events

@@ -1,0 +1,15 @@
+pub mod Event
+pub mod Range
+pub mod Item
+pub mod LoadAnswer
+pub mod Taking
+pub mod Tells
+pub mod OfShape
+pub mod WordForm
+pub mod Hex
+pub mod JsonForm
+pub mod JsonReading
+pub mod JsonStack
+pub mod JsonSaver
+pub mod Left
+pub mod Fitting

@@ -1,0 +1,58 @@
+ghost use Rattle.std.specs.Prelude.{◌≡◌, ◌++◌, ◌∷◌, [], IfOk, OnOk};
+ghost use Rattle.std.specs.Option.{option_map};
+ghost use Rattle.caf_inspect.specs.Hex as hexes;
+ghost use Rattle.caf_inspect.specs.Hex.{unhex};
+
+use caf_types::Memory;
+use std::alloc::Global;
+
+/// The value of a digit `0` to `9` or `a` to `f`.
+pub(crate) fn digit_value(digit: u8) -> Option<u8>
+    ensures { result ≡ hexes.digit_value digit }
+{
+    match digit {
+        b'0'..=b'9' => Some(digit - b'0'),
+        b'a'..=b'f' => Some(digit - 87),
+        _ => None,
+    }
+}
+
+fn add_byte(bytes: &mut Vec<u8>, byte: u8) -> Result<(), Memory>
+    ensures { OnOk result (bytes.new.items ≡ bytes.old.items ++ byte ∷ []) }
+{
+    match bytes.push(byte) {
+        Ok(()) => Ok(()),
+        Err(_) => Err(Memory),
+    }
+}
+
+/// The byte of two digits.
+pub(crate) fn pair_value(high: u8, low: u8) -> Option<u8>
+    ensures { result ≡ hexes.pair_value (hexes.digit_value high) (hexes.digit_value low) }
+{
+    let high = digit_value(high)?;
+    let low = digit_value(low)?;
+    Some(high * 16 + low)
+}
+
+#[tactic(auto, using(crate::proofs::HexLoops::no_pair, crate::proofs::HexLoops::half_left))]
+/// The bytes of pairs of lower-case hexadecimal digits.
+pub(crate) fn bytes_of_digits(alloc: Global, digits: &[u8]) -> Result<Option<Vec<u8>>, Memory>
+    ensures { IfOk result (λ found. option_map (λ bytes. bytes.items) found ≡ unhex digits.now) }
+{
+    let mut bytes = Vec::new(alloc);
+    let mut rest = digits;
+    while rest.len() >= 2 {
+        let Some(byte) = pair_value(rest[0], rest[1]) else {
+            return Ok(None);
+        };
+        add_byte(&mut bytes, byte)?;
+        let (_, after) = rest.split_at(2);
+        rest = after;
+    }
+    if rest.is_empty() {
+        Ok(Some(bytes))
+    } else {
+        Ok(None)
+    }
+}

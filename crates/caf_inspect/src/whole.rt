@@ -1,0 +1,62 @@
+ghost use Rattle.std.specs.Prelude.{◌≡◌, true, Some, Err, IfOk, IfErr};
+ghost use Rattle.serde_json.specs.View.{view};
+ghost use Rattle.caf_types.specs.Table.{shape_at};
+ghost use Rattle.caf_types.specs.TypeTable.{seen};
+ghost use Rattle.caf_words.specs.Spelling.{Spells};
+ghost use Rattle.caf_inspect.specs.JsonForm.{HasJson, names_differ};
+ghost use Rattle.caf_inspect.specs.JsonReading.{unjson};
+ghost use Rattle.caf_inspect.specs.LoadAnswer.{Refused, WordsFailAt};
+
+use crate::{Inspect, JsonLoader, JsonSaver, LoadFault, WordLoader, WordSaver};
+use caf_types::{Memory, TypeTable, Words};
+use serde_json::Value as Json;
+use std::alloc::Global;
+
+/// The words that spell the value.
+pub fn to_words<T: Inspect>(alloc: Global, value: &T) -> Result<Words, Memory>
+    ensures { IfOk result (λ words. Spells T.shape (T.means value.now) words) }
+{
+    let mut saver = WordSaver::new(alloc);
+    value.save(&mut saver)?;
+    Ok(saver.finish())
+}
+
+/// The value that these words spell, where the table has the type's shape under the type's ID.
+///
+/// `Unfit` comes exactly where they spell none, with the place of the first fault.
+pub fn from_words<T: Inspect>(
+    alloc: Global,
+    table: &TypeTable,
+    words: &[u64],
+) -> Result<T, LoadFault>
+    requires { shape_at (seen table.now) T.id ≡ Some T.shape }
+    ensures found { IfOk result (λ value. Spells T.shape (T.means value) words.now) }
+    ensures unfit { IfErr result (Refused (λ d. Spells T.shape d words.now) (WordsFailAt (seen table.now) T.id words.now)) }
+{
+    let mut loader = WordLoader::start(alloc, table, T::type_id(), words)?;
+    let value = T::load(alloc, &mut loader)?;
+    Ok(value)
+}
+
+/// The JSON form of the value.
+pub fn to_json<T: Inspect>(alloc: Global, value: &T) -> Result<Json, Memory>
+    ensures { IfOk result (λ form. names_differ T.shape ≡ true → HasJson T.shape (T.means value.now) (view form)) }
+{
+    let mut saver = JsonSaver::new(alloc);
+    value.save(&mut saver)?;
+    Ok(saver.finish())
+}
+
+/// The value whose form this is, where the table has the type's shape under the type's ID.
+///
+/// `Unfit` comes exactly where it is the form of none, with the path to the first part that is
+/// missing or isn't of its shape.
+pub fn from_json<T: Inspect>(alloc: Global, table: &TypeTable, json: &Json) -> Result<T, LoadFault>
+    requires { shape_at (seen table.now) T.id ≡ Some T.shape }
+    ensures found { IfOk result (λ value. HasJson T.shape (T.means value) (view json.now)) }
+    ensures unfit { IfErr result (Refused (λ d. HasJson T.shape d (view json.now)) (λ path. unjson T.shape (view json.now) ≡ Err path)) }
+{
+    let mut loader = JsonLoader::start(alloc, table, T::type_id(), json)?;
+    let value = T::load(alloc, &mut loader)?;
+    Ok(value)
+}
