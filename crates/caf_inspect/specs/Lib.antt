@@ -12,4 +12,3 @@ pub mod JsonReading
 pub mod JsonStack
 pub mod JsonSaver
 pub mod Left
-pub mod Fitting

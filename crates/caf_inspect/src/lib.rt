@@ -37,3 +37,6 @@ pub use save::Save;
 pub use whole::{from_json, from_words, to_json, to_words};
 pub use word_loader::WordLoader;
 pub use word_saver::WordSaver;
+
+#[cfg(test)]
+mod tests;
