@@ -1,0 +1,64 @@
+-- The drain, one envelope at a time.
+use Rattle.std.proofs.Common.{◌≡◌, ℕ, zero, suc, ◌+◌, ◌≤◌, Option, Some, None, refl, arith, ◌∙◌}
+use Rattle.caf_message.specs.declared.envelope.Taken.{Taken}
+use Rattle.caf_actor.specs.declared.snapshot.Snapshot.{Snapshot}
+use Rattle.caf_actor.specs.Rules.{Rules}
+use Rattle.caf_actor.specs.Snapshot.{Handled, cached, next_envelope}
+use Rattle.caf_actor.specs.Handling.{handle_one}
+use Rattle.caf_actor.specs.Drain.{turn, drain_for, drain}
+use Rattle.caf_actor.proofs.CachedLemmas.{left_envelope, cached_one}
+
+module _ {S : Type 0} (rules : Rules S) where
+  pub cached_next : (s : Snapshot S) (p : Taken × Snapshot S) → next_envelope rules s ≡ Some p → cached s ≡ suc (cached p.1)
+  cached_next s p q = (left_envelope rules (λ e. Unit {0}) s p q).shorter
+
+  -- nothing is next where nothing is cached
+  next_empty : (s : Snapshot S) → cached s ≡ 0 → (r : Option (Taken × Snapshot S)) → next_envelope rules s ≡ r → next_envelope rules s ≡ None
+  next_empty s none None q = q
+  next_empty s none (Some p) q = let some : cached s ≡ suc (cached p.1) = cached_next s p q in absurd (omega arith)
+
+  -- more turns than there are envelopes change nothing
+  same_turns : (n m : ℕ) (t : Handled S) → cached t.0 ≤ n → cached t.0 ≤ m → drain_for rules n t ≡ drain_for rules m t
+  same_turns zero zero t h k = refl
+  same_turns zero (suc m) t h k =
+      let none : cached t.0 ≡ 0 = omega arith in
+      rw (next_empty t.0 none (next_envelope rules t.0) refl) refl
+  same_turns (suc n) zero t h k =
+      let none : cached t.0 ≡ 0 = omega arith in
+      rw (next_empty t.0 none (next_envelope rules t.0) refl) refl
+  same_turns (suc n) (suc m) t h k = go (same_turns n m) (next_envelope rules t.0) refl
+    where
+      go : ((u : Handled S) → cached u.0 ≤ n → cached u.0 ≤ m → drain_for rules n u ≡ drain_for rules m u) → (r : Option (Taken × Snapshot S)) → next_envelope rules t.0 ≡ r → drain_for rules (suc n) t ≡ drain_for rules (suc m) t
+      go fewer None q = rw q refl
+      go fewer (Some p) q =
+          let left : cached t.0 ≡ suc (cached p.1) = cached_next t.0 p q in
+          let less : cached (handle_one rules (p.1, t.1) p.0).0 ≤ cached p.1 = cached_one rules (p.1, t.1) p.0 in
+          rw q (fewer (handle_one rules (p.1, t.1) p.0) (omega arith) (omega arith))
+
+  -- ---- the two laws of the drain
+
+  pub drain_rest : (t : Handled S) → next_envelope rules t.0 ≡ None → drain rules t ≡ t
+  drain_rest t q = same_turns (cached t.0) (suc (cached t.0)) t (omega arith) (omega arith) ∙ rw q refl
+
+  pub drain_step : (t : Handled S) (p : Taken × Snapshot S) → next_envelope rules t.0 ≡ Some p → drain rules t ≡ drain rules (handle_one rules (p.1, t.1) p.0)
+  drain_step t p q =
+      let left : cached t.0 ≡ suc (cached p.1) = cached_next t.0 p q in
+      let less : cached (handle_one rules (p.1, t.1) p.0).0 ≤ cached p.1 = cached_one rules (p.1, t.1) p.0 in
+      let u : Handled S = handle_one rules (p.1, t.1) p.0 in
+      same_turns (cached t.0) (suc (cached p.1)) t (omega arith) (omega arith) ∙ rw q (same_turns (cached p.1) (cached u.0) u less (omega arith))
+
+  -- what each turn keeps, the drain keeps
+  pub drain_keeps : (P : Handled S → Type 0) → ((t : Handled S) (p : Taken × Snapshot S) → next_envelope rules t.0 ≡ Some p → P t → P (handle_one rules (p.1, t.1) p.0)) → (n : ℕ) (t : Handled S) → P t → P (drain_for rules n t)
+  drain_keeps P each zero t h = h
+  drain_keeps P each (suc n) t h = go (drain_keeps P each n) (next_envelope rules t.0) refl
+    where
+      go : ((u : Handled S) → P u → P (drain_for rules n u)) → (r : Option (Taken × Snapshot S)) → next_envelope rules t.0 ≡ r → P (drain_for rules (suc n) t)
+      go later None q = rw q h
+      go later (Some p) q = rw q (later (handle_one rules (p.1, t.1) p.0) (each t p q h))
+
+  -- no more is cached than before
+  pub cached_drain : (t : Handled S) → cached (drain rules t).0 ≤ cached t.0
+  cached_drain t = drain_keeps (λ u. cached u.0 ≤ cached t.0) (λ u p q h.
+      let left : cached u.0 ≡ suc (cached p.1) = cached_next u.0 p q in
+      let less : cached (handle_one rules (p.1, u.1) p.0).0 ≤ cached p.1 = cached_one rules (p.1, u.1) p.0 in
+      omega arith) (cached t.0) t (omega arith)

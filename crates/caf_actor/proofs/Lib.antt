@@ -1,0 +1,6 @@
+pub mod ListLemmas
+pub mod InterfaceLemmas
+pub mod KeptLemmas
+pub mod CachedLemmas
+pub mod DrainLemmas
+pub mod SharingLemmas

@@ -1,0 +1,32 @@
+-- One message for several places.
+use Rattle.std.proofs.Common.{◌≡◌, ℕ, zero, suc, ◌+◌, ◌-◌, ◌*◌, ◌/◌, ◌≤◌, List, [], ◌∷◌, ◌++◌, refl, ap, sym, ◌∙◌, arith, replicate}
+use Rattle.std.proofs.lemmas.List.{append_assoc}
+use Rattle.std.proofs.Math.Nat.{mul-div-le}
+use Rattle.caf_steps.specs.declared.step.Step.{Step}
+use Rattle.caf_steps.specs.declared.step.Step.TheVariants.{Retain}
+use Rattle.caf_types.specs.declared.notice.Priority.{Priority}
+use Rattle.caf_actor.specs.Snapshot.{Handled}
+use Rattle.caf_actor.specs.Sending.{tell, tell_many}
+use Rattle.caf_actor.specs.Sharing.{to_each, tell_each}
+
+-- one content for each place, told one after the other
+pub told_each : {S : Type 0} (t : Handled S) (places : List ℕ) (priority : Priority) (words : List ℕ) → tell_each t priority (to_each places words) ≡ tell_many t places priority words
+told_each t [] priority words = refl
+told_each t (to ∷ places) priority words = told_each (tell t to priority words) places priority words
+
+-- ---- retains, one after the other
+
+replicate_push : (n : ℕ) → replicate n Retain ++ Retain ∷ [] ≡ replicate (suc n) Retain
+replicate_push zero = refl
+replicate_push (suc n) = ap (λ (steps : List Step). Retain ∷ steps) (replicate_push n)
+
+pub one_more_retain : (steps : List Step) (n : ℕ) → (steps ++ replicate n Retain) ++ Retain ∷ [] ≡ steps ++ replicate (n + 1) Retain
+one_more_retain steps n =
+    let next : suc n ≡ n + 1 = omega arith in
+    append_assoc steps (replicate n Retain) (Retain ∷ []) ∙ ap (λ (more : List Step). steps ++ more) (replicate_push n ∙ ap (λ (m : ℕ). replicate m Retain) next)
+
+-- where the room was 4,096 at first, a retain costs 3 of it at most
+pub room_left : (room n : ℕ) → 4096 ≤ room + n → 4096 ≤ (room - 1 - room / 2048) + (n + 3)
+room_left room n h =
+    let part : 2048 * (room / 2048) ≤ room = mul-div-le room 2048 in
+    omega arith

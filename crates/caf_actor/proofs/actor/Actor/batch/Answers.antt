@@ -1,0 +1,27 @@
+use Rattle.std.proofs.Common.{◌≡◌, ◌∙◌, sym, ap, arith, subst, List, map}
+use Rattle.std.specs.List.{AllByRecursion}
+use Rattle.caf_types.specs.Table.{shape_at}
+use Rattle.caf_types.specs.TypeTable.{seen}
+use Rattle.caf_message.specs.declared.envelope.Taken.{Taken}
+use Rattle.caf_message.specs.Envelope.{EnvelopeFits, plain_envelope}
+use Rattle.caf_actor.specs.declared.snapshot.Snapshot.{Snapshot}
+use Rattle.caf_actor.specs.Actor.{CachesFit}
+use Rattle.caf_actor.specs.Snapshot.{Handled, cached}
+use Rattle.caf_actor.proofs.CachedLemmas.{filed_fit}
+use Rattle.caf_actor.proofs.DrainLemmas.{cached_drain}
+use Rattle.caf_actor.proofs.actor.Actor.batch.Goals as goal
+
+pub drain-requires-clause-fits : goal.drain-requires-clause-fits
+drain-requires-clause-fits g c =
+    let shape_of = shape_at (seen c.args.table.now) in
+    let fits = subst (λ (es : List Taken). AllByRecursion (EnvelopeFits shape_of) es) (sym c.in_ok-batch.ensures.kept) c.requires.fits in
+    subst (λ (s : Snapshot g.row.B.Denot). CachesFit shape_of s.caches) (sym c.in_ok-file.ensures)
+    (filed_fit shape_of c.self.inside.snapshot.caches (map plain_envelope c.in_ok-batch.batch) (subst (λ (s : Snapshot g.row.B.Denot). CachesFit shape_of s.caches) ? c.requires.lists_fit) fits)
+
+pub overflow_sub-left : goal.overflow_sub-left
+overflow_sub-left g c =
+    let less = cached_drain g.B.Behavior.rules (c.file.new.self, c.new-posts.result) in
+    let after = ap (λ (t : Handled g.row.B.Denot). cached t.0) c.in_ok-drain.ensures in
+    let before = c.len-filed.ensures in
+    let now = c.len.ensures in
+    omega arith

@@ -1,0 +1,15 @@
+pub mod PlainInput
+pub mod PlainOutput
+pub mod PlainReaction
+pub mod PlainPost
+pub mod PlainForms
+pub mod Rules
+pub mod Numbers
+pub mod Snapshot
+pub mod Sending
+pub mod Answering
+pub mod Quitting
+pub mod Handling
+pub mod Drain
+pub mod Actor
+pub mod Sharing

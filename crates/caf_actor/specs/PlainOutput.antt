@@ -1,0 +1,21 @@
+-- What a behaviour sends, with contents as words.
+use Rattle.std.specs.Prelude.{ℕ, List}
+use Rattle.caf_types.specs.declared.shape.TypeId.{TypeId}
+use Rattle.caf_types.specs.declared.notice.Priority.{Priority}
+use Rattle.caf_types.specs.declared.sec.Sec.{Sec}
+use Rattle.caf_types.specs.declared.reason.Reason.{Reason}
+use Rattle.caf_response.specs.declared.pending.Mode.{Mode}
+
+pub data PlainOutput : Type 0 where
+  Tell : ℕ → Priority → List ℕ → PlainOutput
+  TellMany : List ℕ → Priority → List ℕ → PlainOutput
+  -- to whom, how urgent, how it waits, its tag, the types expected, and the content
+  Request : ℕ → Priority → Mode → ℕ → List TypeId → List ℕ → PlainOutput
+  Exit : ℕ → Reason → PlainOutput
+  Link : ℕ → PlainOutput
+  Unlink : ℕ → PlainOutput
+  Watch : ℕ → PlainOutput
+  Unwatch : ℕ → PlainOutput
+  -- requester, number, and what is answered
+  Deliver : ℕ → ℕ → List ℕ → PlainOutput
+  Break : ℕ → ℕ → Sec → PlainOutput

@@ -1,0 +1,34 @@
+-- One message for several places.
+use Rattle.std.specs.Prelude.{◌≡◌, ℕ, ◌-◌, ◌≤◌, ◌<◌, List, [], ◌∷◌, ◌++◌, length, map, replicate}
+use Rattle.caf_steps.specs.declared.step.Step.{Step}
+use Rattle.caf_steps.specs.declared.step.Step.TheVariants.{Retain}
+use Rattle.caf_steps.specs.declared.reference.Reference.{Reference}
+use Rattle.caf_steps.specs.Reference.{fresh}
+use Rattle.caf_types.specs.declared.notice.Priority.{Priority}
+use Rattle.caf_actor.specs.Snapshot.{Handled}
+use Rattle.caf_actor.specs.Sending.{tell}
+
+-- each place with a content
+abbrev pub contents_of : List (ℕ × Reference) → List (ℕ × List ℕ)
+contents_of addressed = map (λ (a : ℕ × Reference). (a.0, a.1.content)) addressed
+
+abbrev pub to_each : List ℕ → List ℕ → List (ℕ × List ℕ)
+to_each places words = map (λ to. (to, words)) places
+
+-- the steps of the reference that goes to the first place
+abbrev pub first_steps : List (ℕ × Reference) → List Step
+first_steps [] = []
+first_steps (a ∷ others) = a.1.steps
+
+-- the first place gets the reference itself, which was retained once for each further place
+abbrev pub IsShared : Reference → ℕ → List (ℕ × Reference) → Type 0
+IsShared r places addressed = first_steps addressed ≡ r.steps ++ replicate (places - 1) Retain
+
+-- a copy for each place
+abbrev pub to_copies : List ℕ → List ℕ → List (ℕ × Reference)
+to_copies places words = map (λ to. (to, fresh words)) places
+
+-- each place is told the content that stands with it
+abbrev pub tell_each : {S : Type 0} → Handled S → Priority → List (ℕ × List ℕ) → Handled S
+tell_each t priority [] = t
+tell_each t priority (a ∷ others) = tell_each (tell t a.0 priority a.1) priority others

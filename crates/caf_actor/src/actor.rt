@@ -1,0 +1,135 @@
+ghost use Rattle.std.specs.Prelude.{◌≡◌, ◌≢◌, [], ◌∷◌, ◌++◌, ◌<◌, ◌≤◌, ◌^◌, map, OnOk, OnErr, IfOk, true, false};
+ghost use Rattle.std.specs.List.{AllByRecursion};
+ghost use Rattle.caf_types.specs.Table.{shape_at};
+ghost use Rattle.caf_types.specs.TypeTable.{seen};
+ghost use Rattle.caf_message.specs.Entries.{HasEntries};
+ghost use Rattle.caf_message.specs.Envelope.{plain_envelope, EnvelopeFits};
+ghost use Rattle.caf_message.specs.declared.envelope.Taken.{Taken};
+ghost use Rattle.caf_actor.specs.PlainForms.{plain_post};
+ghost use Rattle.caf_actor.specs.Actor.{new_actor, add_handled, CachesFit};
+ghost use Rattle.caf_actor.specs.Drain.{batch_of, stamp_due, left_in_batch};
+
+use crate::draining::with_copies;
+use crate::post::Posts;
+use crate::{Behavior, Journal, Post, Snapshot, TakenBatch};
+use caf_message::Batch;
+use caf_types::{Memory, Reason, Seq, TypeTable};
+use std::alloc::Global;
+use std::marker::Model;
+
+/// An actor: a behaviour, all that it keeps between two batches, and its journal.
+#[derive(Drop)]
+pub struct Actor<B: Behavior> {
+    snapshot: Snapshot<B>,
+    journal: Journal,
+    handled: u64,
+    is_broken: bool,
+}
+
+impl<B: Behavior> Model for Actor<B> {
+    ghost use Rattle.caf_actor.specs.Actor.{ActorState};
+
+    ghost Value = { ActorState B };
+
+    ghost view = { λ actor. record { snapshot = actor.snapshot; journal = actor.journal; handled = actor.handled; is_broken = actor.is_broken } };
+}
+
+impl<B: Behavior> Actor<B> {
+    /// An actor at that place that has taken nothing yet.
+    pub fn new(alloc: Global, place: u32, behavior: B, stamp: u64) -> Result<Actor<B>, Memory>
+        requires place { place < 256 }
+        requires own { place ≡ B.rules.place behavior }
+        requires stamp { stamp ≤ 2 ^ 40 }
+        ensures { IfOk result (λ actor. actor ≡ new_actor place behavior stamp) }
+    {
+        Ok(Actor {
+            snapshot: Snapshot::new(alloc, place, behavior, stamp),
+            journal: Seq::new(alloc),
+            handled: 0,
+            is_broken: false,
+        })
+    }
+
+    /// Takes a batch: it gets its stamp, goes into the lists and into the journal, and the next
+    /// envelope is handled, again and again, until none is eligible. What the actor sends comes back
+    /// in the order of sending.
+    ///
+    /// After want of memory the actor is broken, and every later batch answers the same.
+    pub fn batch(
+        &mut self,
+        alloc: Global,
+        table: &TypeTable,
+        batch: Batch,
+    ) -> Result<Seq<Post>, Memory>
+        requires filled { batch ≢ [] }
+        requires stamp { self.old.snapshot.stamp < 2 ^ 40 }
+        requires stamps { AllByRecursion (λ (e : Taken). e.stamp < 2 ^ 40) (map plain_envelope batch) }
+        requires entries { HasEntries (seen table.now) B.entries }
+        requires fits { AllByRecursion (EnvelopeFits (shape_at (seen table.now))) (map plain_envelope batch) }
+        requires lists_fit { CachesFit (shape_at (seen table.now)) self.old.snapshot.caches }
+        ensures posts { IfOk result (λ posts. map plain_post posts ≡ (batch_of B.rules self.old.snapshot (map plain_envelope batch)).1) }
+        ensures snapshot { OnOk result (self.new.snapshot ≡ (batch_of B.rules self.old.snapshot (map plain_envelope batch)).0) }
+        ensures journal { OnOk result (self.new.journal ≡ self.old.journal ++ record { stamp = stamp_due self.old.snapshot.stamp (map plain_envelope batch); taken = map plain_envelope batch } ∷ []) }
+        ensures handled { OnOk result (self.new.handled ≡ add_handled self.old.handled (left_in_batch B.rules self.old.snapshot (map plain_envelope batch))) }
+        ensures whole { OnOk result ((self.old.is_broken ≡ false) × (self.new.is_broken ≡ false)) }
+        ensures broken { OnErr result (self.new.is_broken ≡ true) }
+    {
+        if self.is_broken {
+            return Err(Memory);
+        }
+        self.is_broken = true;
+        let (batch, taken) = with_copies(alloc, batch)?;
+        self.snapshot.file(batch)?;
+        let stamp = self.snapshot.stamp;
+        let filed = self.snapshot.caches.len();
+        let mut posts = Posts::new(alloc);
+        self.snapshot.drain(alloc, table, &mut posts)?;
+        let left = filed - self.snapshot.caches.len();
+        self.journal.push(TakenBatch { stamp, taken })?;
+        self.handled = self.handled.saturating_add(left);
+        self.is_broken = false;
+        Ok(posts.into_seq())
+    }
+
+    /// The place that it was made with.
+    pub fn place(&self) -> u32
+        ensures { result ≡ self.now.snapshot.place }
+    {
+        self.snapshot.place
+    }
+
+    /// The stamp of its last batch, or the one that it was made with.
+    pub fn stamp(&self) -> u64
+        ensures { result ≡ self.now.snapshot.stamp }
+    {
+        self.snapshot.stamp
+    }
+
+    /// How many envelopes left its lists. The number stops at 2^64 - 1.
+    pub fn handled(&self) -> u64
+        ensures { result ≡ self.now.handled }
+    {
+        self.handled
+    }
+
+    /// Why it quit; None exactly where it hasn't.
+    pub fn quit(&self) -> Option<Reason>
+        ensures { result ≡ self.now.snapshot.quit }
+    {
+        self.snapshot.quit
+    }
+
+    /// The behaviour's present value. It stays after the actor quit.
+    pub fn behavior(&self) -> &B
+        ensures { result.now ≡ self.now.snapshot.behavior }
+    {
+        &self.snapshot.behavior
+    }
+
+    /// All batches that it took, in their order.
+    pub fn journal(&self) -> &Journal
+        ensures { result.now ≡ self.now.journal }
+    {
+        &self.journal
+    }
+}

@@ -1,0 +1,110 @@
+//! Which envelopes the actor may handle now.
+ghost use Rattle.std.specs.Prelude.{◌≡◌, IfNone, bytes_eq};
+ghost use Rattle.std.specs.Option.{option_copied, option_map};
+ghost use Rattle.caf_words.specs.Several.{ids_of};
+ghost use Rattle.caf_message.specs.Content.{ids_in};
+ghost use Rattle.caf_message.specs.Envelope.{plain_envelope};
+ghost use Rattle.caf_message.specs.declared.envelope.Plain.TheVariants as «plain»;
+ghost use Rattle.caf_actor.specs.Rules.{signature_for};
+ghost use Rattle.caf_actor.specs.Snapshot.{is_wanted, next_envelope};
+ghost use Rattle.caf_actor.specs.Snapshot as snapshot;
+
+use crate::{Behavior, Snapshot};
+use caf_mailbox::Eligible;
+use caf_message::{Body, Envelope, Message};
+use caf_signature::{Interface, Signature};
+use caf_types::TypeId;
+
+/// What tells the eligible envelopes of an actor.
+#[derive(Drop)]
+struct Turn<'a, B> {
+    behavior: &'a B,
+    has_quit: bool,
+    /// The number of the response that is awaited.
+    awaited: Option<u64>,
+}
+
+impl<'a, B: Behavior> Eligible for Turn<'a, B> {
+    ghost use Rattle.caf_actor.specs.Snapshot.{is_eligible_when};
+
+    ghost test = { λ turn. is_eligible_when B.rules turn.behavior.now turn.has_quit turn.awaited };
+
+    fn eligible(&self, envelope: &mut Envelope) -> bool {
+        if self.has_quit {
+            return true;
+        }
+        let is_response = envelope.mid.response;
+        let number = envelope.mid.number;
+        match &mut envelope.body {
+            Body::System(_) => true,
+            Body::Failure(_) => is_awaited(self.awaited, number),
+            Body::Content(message) => {
+                if is_response {
+                    is_awaited(self.awaited, number)
+                } else {
+                    self.awaited.is_none() && is_content_wanted(self.behavior, message)
+                }
+            }
+        }
+    }
+}
+
+/// Whether the response of that number may be handled: while one is awaited, it alone.
+fn is_awaited(awaited: Option<u64>, number: u64) -> bool
+    ensures { result ≡ snapshot.is_awaited awaited number }
+{
+    match awaited {
+        Some(top) => number == top,
+        None => true,
+    }
+}
+
+/// Whether the content has these types.
+pub(crate) fn has_types(message: &mut Message, types: &[TypeId]) -> bool
+    ensures answer { result ≡ bytes_eq (ids_of types.now) (ids_in message.old.content) }
+    ensures kept { message.new.content ≡ message.old.content }
+{
+    message.has_types(types)
+}
+
+/// The signature whose input has the types of the content.
+pub(crate) fn signature_of<'a>(
+    interface: &'a Interface,
+    message: &mut Message,
+) -> Option<&'a Signature>
+    ensures found { option_copied result ≡ signature_for interface.now (ids_in message.old.content) }
+    ensures kept { message.new.content ≡ message.old.content }
+{
+    for signature in interface.signatures().as_slice() {
+        if has_types(message, signature.input.as_slice()) {
+            return Some(signature);
+        }
+    }
+    None
+}
+
+/// Whether the behaviour doesn't keep the content for later. Only inputs of its interface are kept.
+fn is_content_wanted<B: Behavior>(behavior: &B, message: &mut Message) -> bool
+    ensures wanted { result ≡ is_wanted B.rules behavior.now («plain».Content message.old.content) }
+    ensures kept { message.new.content ≡ message.old.content }
+{
+    match signature_of(behavior.interface(), message) {
+        Some(signature) => !behavior.skips(&signature.input),
+        None => true,
+    }
+}
+
+impl<B: Behavior> Snapshot<B> {
+    /// Takes the next envelope out of the lists; None exactly where none is eligible.
+    pub(crate) fn take_next(&mut self) -> Option<Envelope>
+        ensures next { option_map (λ envelope. (plain_envelope envelope, self.new)) result ≡ next_envelope B.rules self.old }
+        ensures kept { IfNone result (self.new ≡ self.old) }
+    {
+        let turn = Turn {
+            behavior: &self.behavior,
+            has_quit: self.quit.is_some(),
+            awaited: self.pending.top(),
+        };
+        self.caches.next(&turn)
+    }
+}

@@ -1,0 +1,245 @@
+//! What an actor does with one envelope that has left its list.
+ghost use Rattle.std.specs.Prelude.{◌≡◌, OnOk, IfOk, true};
+ghost use Rattle.caf_types.specs.Table.{shape_at};
+ghost use Rattle.caf_types.specs.TypeTable.{seen};
+ghost use Rattle.caf_message.specs.Content.{ids_in};
+ghost use Rattle.caf_message.specs.Entries.{HasEntries};
+ghost use Rattle.caf_message.specs.Envelope.{plain_body, plain_envelope, BodyFits, EnvelopeFits};
+ghost use Rattle.caf_message.specs.Fits.{FitsTable};
+ghost use Rattle.caf_response.specs.declared.pending.Waiting.{Waiting};
+ghost use Rattle.caf_actor.specs.PlainForms.{plain_input};
+ghost use Rattle.caf_actor.specs.Rules.{MayBeGiven, InputFits, is_input};
+ghost use Rattle.caf_actor.specs.Handling.{response_input, failure_input};
+ghost use Rattle.caf_actor.specs.Handling as handling;
+
+use crate::eligibility::{has_types, signature_of};
+use crate::post::Posts;
+use crate::{Behavior, Input, Origin, Reaction, Snapshot};
+use caf_message::{Body, Envelope, Message};
+use caf_types::{Memory, Notice, Reason, Sec, TypeTable};
+use std::alloc::Global;
+
+/// A second message with the same content, which a delegation sends on: in the same tuple where it
+/// has room for one.
+fn second_of(alloc: Global, message: &mut Message) -> Result<Message, Memory>
+    ensures second { IfOk result (λ second. second.content ≡ message.old.content) }
+    ensures kept { message.new.content ≡ message.old.content }
+{
+    if message.room() > 0 {
+        return message.retain();
+    }
+    message.copy(alloc)
+}
+
+impl<B: Behavior> Snapshot<B> {
+    /// Gives the behaviour an input that is no content.
+    fn give(
+        &mut self,
+        alloc: Global,
+        table: &TypeTable,
+        posts: &mut Posts,
+        input: Input,
+    ) -> Result<(), Memory>
+        requires entries { HasEntries (seen table.now) B.entries }
+        requires fits { InputFits (shape_at (seen table.now)) (plain_input input) }
+        requires given { MayBeGiven B.rules self.old.behavior (plain_input input) }
+        ensures { OnOk result (handling.give B.rules (self.old, posts.old) (plain_input input) ≡ (self.new, posts.new)) }
+    {
+        let reaction = self.behavior.react(alloc, table, input)?;
+        let Reaction { outputs, quit, .. } = reaction;
+        self.send_outputs(alloc, posts, outputs)?;
+        self.quit_where(alloc, posts, quit)
+    }
+
+    /// Gives the behaviour content of its interface, and answers it.
+    fn give_content(
+        &mut self,
+        alloc: Global,
+        table: &TypeTable,
+        posts: &mut Posts,
+        origin: Origin,
+        message: Message,
+    ) -> Result<(), Memory>
+        requires entries { HasEntries (seen table.now) B.entries }
+        requires fits { FitsTable (seen table.now) message.content }
+        requires given { is_input (B.rules.interface self.old.behavior) (ids_in message.content) ≡ true }
+        ensures { OnOk result (handling.give_content B.rules (self.old, posts.old) origin message.content ≡ (self.new, posts.new)) }
+    {
+        let mut message = message;
+        let second = second_of(alloc, &mut message)?;
+        let input = Input::Content(origin, message);
+        let reaction = self.behavior.react(alloc, table, input)?;
+        let Reaction {
+            outputs,
+            answer,
+            quit,
+        } = reaction;
+        self.send_outputs(alloc, posts, outputs)?;
+        self.answer(posts, origin, second, answer)?;
+        self.quit_where(alloc, posts, quit)
+    }
+
+    fn handle_content(
+        &mut self,
+        alloc: Global,
+        table: &TypeTable,
+        posts: &mut Posts,
+        origin: Origin,
+        message: Message,
+    ) -> Result<(), Memory>
+        requires entries { HasEntries (seen table.now) B.entries }
+        requires fits { FitsTable (seen table.now) message.content }
+        ensures { OnOk result (handling.handle_content B.rules (self.old, posts.old) origin message.content ≡ (self.new, posts.new)) }
+    {
+        let mut message = message;
+        if signature_of(self.behavior.interface(), &mut message).is_some() {
+            return self.give_content(alloc, table, posts, origin, message);
+        }
+        self.refuse(posts, origin, Sec::UnexpectedMessage)
+    }
+
+    /// A response that isn't waited for is dropped.
+    fn handle_response(
+        &mut self,
+        alloc: Global,
+        table: &TypeTable,
+        posts: &mut Posts,
+        number: u64,
+        message: Message,
+    ) -> Result<(), Memory>
+        requires entries { HasEntries (seen table.now) B.entries }
+        requires fits { FitsTable (seen table.now) message.content }
+        ensures { OnOk result (handling.handle_response B.rules (self.old, posts.old) number (λ (w : Waiting). response_input w message.content) ≡ (self.new, posts.new)) }
+    {
+        let mut message = message;
+        match self.pending.resolve(number) {
+            None => Ok(()),
+            Some(waiting) => {
+                if has_types(&mut message, waiting.expected.as_slice()) {
+                    return self.give(alloc, table, posts, Input::Response(waiting.tag, message));
+                }
+                let input = Input::Failed(waiting.tag, Sec::UnexpectedResponse);
+                self.give(alloc, table, posts, input)
+            }
+        }
+    }
+
+    fn handle_failure(
+        &mut self,
+        alloc: Global,
+        table: &TypeTable,
+        posts: &mut Posts,
+        number: u64,
+        sec: Sec,
+    ) -> Result<(), Memory>
+        requires entries { HasEntries (seen table.now) B.entries }
+        ensures { OnOk result (handling.handle_response B.rules (self.old, posts.old) number (λ (w : Waiting). failure_input w sec) ≡ (self.new, posts.new)) }
+    {
+        match self.pending.resolve(number) {
+            None => Ok(()),
+            Some(waiting) => self.give(alloc, table, posts, Input::Failed(waiting.tag, sec)),
+        }
+    }
+
+    /// Takes the place of an exit notice out of the links, and quits for any reason but `Normal`.
+    /// Place 0 drops exit notices.
+    fn handle_exit(
+        &mut self,
+        alloc: Global,
+        posts: &mut Posts,
+        from: u32,
+        reason: Reason,
+    ) -> Result<(), Memory>
+        ensures { OnOk result (handling.handle_exit (self.old, posts.old) from reason ≡ (self.new, posts.new)) }
+    {
+        if self.place == 0 {
+            return Ok(());
+        }
+        self.observers.unlink(from);
+        match reason {
+            Reason::Normal => Ok(()),
+            Reason::UserShutdown => self.quit_with(alloc, posts, Reason::UserShutdown),
+            Reason::Kill => self.quit_with(alloc, posts, Reason::Kill),
+            Reason::Failed => self.quit_with(alloc, posts, Reason::Failed),
+        }
+    }
+
+    fn handle_notice(
+        &mut self,
+        alloc: Global,
+        table: &TypeTable,
+        posts: &mut Posts,
+        notice: Notice,
+    ) -> Result<(), Memory>
+        requires entries { HasEntries (seen table.now) B.entries }
+        ensures { OnOk result (handling.handle_notice B.rules (self.old, posts.old) notice ≡ (self.new, posts.new)) }
+    {
+        match notice {
+            Notice::Start => self.give(alloc, table, posts, Input::Start),
+            Notice::Stop => self.give(alloc, table, posts, Input::Stop),
+            Notice::Exit(from, reason) => self.handle_exit(alloc, posts, from, reason),
+            Notice::Down(from, reason) => {
+                self.give(alloc, table, posts, Input::Down(from, reason))
+            }
+            Notice::Link(from) => {
+                self.observers.link(from)?;
+                Ok(())
+            }
+            Notice::Unlink(from) => {
+                self.observers.unlink(from);
+                Ok(())
+            }
+            Notice::Watch(from) => {
+                self.observers.watch(from)?;
+                Ok(())
+            }
+            Notice::Unwatch(from) => {
+                self.observers.unwatch(from);
+                Ok(())
+            }
+        }
+    }
+
+    /// Does what an envelope asks.
+    pub(crate) fn handle(
+        &mut self,
+        alloc: Global,
+        table: &TypeTable,
+        posts: &mut Posts,
+        envelope: Envelope,
+    ) -> Result<(), Memory>
+        requires entries { HasEntries (seen table.now) B.entries }
+        requires fits { EnvelopeFits (shape_at (seen table.now)) (plain_envelope envelope) }
+        ensures { OnOk result (handling.handle_one B.rules (self.old, posts.old) (plain_envelope envelope) ≡ (self.new, posts.new)) }
+    {
+        let (origin, body) = Origin::split(envelope);
+        match self.quit {
+            Some(reason) => self.handle_shell(posts, reason, origin, body),
+            None => self.handle_body(alloc, table, posts, origin, body),
+        }
+    }
+
+    fn handle_body(
+        &mut self,
+        alloc: Global,
+        table: &TypeTable,
+        posts: &mut Posts,
+        origin: Origin,
+        body: Body,
+    ) -> Result<(), Memory>
+        requires entries { HasEntries (seen table.now) B.entries }
+        requires fits { BodyFits (shape_at (seen table.now)) (plain_body body) }
+        ensures { OnOk result (handling.handle_body B.rules (self.old, posts.old) origin (plain_body body) ≡ (self.new, posts.new)) }
+    {
+        match body {
+            Body::System(notice) => self.handle_notice(alloc, table, posts, notice),
+            Body::Failure(sec) => self.handle_failure(alloc, table, posts, origin.mid.number, sec),
+            Body::Content(message) => {
+                if origin.mid.response {
+                    return self.handle_response(alloc, table, posts, origin.mid.number, message);
+                }
+                self.handle_content(alloc, table, posts, origin, message)
+            }
+        }
+    }
+}

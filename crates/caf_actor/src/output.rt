@@ -1,0 +1,28 @@
+use caf_message::Message;
+use caf_response::Mode;
+use caf_types::{Places, Priority, Reason, Sec, TypeIds};
+
+/// What a behaviour sends, or does with the requests that it holds.
+#[derive(Debug, Drop)]
+pub enum Output {
+    /// Content to a place.
+    Tell(u32, Priority, Message),
+    /// One content to each of the places, in their order. All receive the same tuple where the
+    /// message has a room of at least 4,096, and else each further place gets a copy.
+    TellMany(Places, Priority, Message),
+    /// A request: to whom, how urgent, whether content waits for the response, the tag that the
+    /// response will have, the types that are expected, and the content.
+    Request(u32, Priority, Mode, u32, TypeIds, Message),
+    /// An exit notice with this reason.
+    Exit(u32, Reason),
+    /// Links this actor and the one at the place, each to the other.
+    Link(u32),
+    Unlink(u32),
+    /// Asks to be told when the actor at the place quits.
+    Watch(u32),
+    Unwatch(u32),
+    /// Answers the held request of this requester and number.
+    Deliver(u32, u64, Message),
+    /// Answers the held request of this requester and number by an error.
+    Break(u32, u64, Sec),
+}
