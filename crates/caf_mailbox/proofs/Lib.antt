@@ -1,0 +1,3 @@
+pub mod FilingLemmas
+pub mod SearchLemmas
+pub mod CachesLemmas
