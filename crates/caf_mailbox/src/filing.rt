@@ -26,11 +26,11 @@ pub(crate) fn make_room(
 }
 
 /// How many of the envelopes are urgent.
-fn count_urgent(batch: &[Envelope]) -> usize
-    ensures { result ≡ count_by (λ e. definitions.is_urgent (plain_envelope e)) batch.now }
+fn count_urgent(envelopes: &[Envelope]) -> usize
+    ensures { result ≡ count_by (λ e. definitions.is_urgent (plain_envelope e)) envelopes.now }
 {
     let mut count = 0;
-    for envelope in batch {
+    for envelope in envelopes {
         if is_urgent(envelope) {
             count += 1;
         }

@@ -4,4 +4,4 @@ use Rattle.caf_mailbox.specs.Caches.{is_urgent}
 use Rattle.caf_mailbox.proofs.filing.count_urgent.Given as goal
 
 abbrev pub invariant-loop-envelope : goal.invariant-loop-envelope
-invariant-loop-envelope l = l.count ≡ count_by (λ e. is_urgent (plain_envelope e)) (take l.envelope-index l.batch)
+invariant-loop-envelope l = l.count ≡ count_by (λ e. is_urgent (plain_envelope e)) (take l.envelope-index l.envelopes)
