@@ -1,5 +1,5 @@
 -- Lists that get the envelopes of one class at their end.
-use Rattle.std.proofs.Common.{◌≡◌, ℕ, suc, ◌+◌, ◌∙◌, Bool, true, false, not, List, [], ◌∷◌, ◌++◌, length, map, filter, count_by, refl, sym, ap, arith, append_assoc, cond}
+use Rattle.std.proofs.Common.{◌≡◌, ℕ, suc, ◌+◌, Bool, true, false, not, List, [], ◌∷◌, ◌++◌, length, map, filter, count_by, refl, arith, append_assoc, cond}
 use Rattle.std.proofs.lemmas.List.Sums.{sum_by-cons}
 use Rattle.std.proofs.lemmas.List.{map-append, append-nil, nil_from_length}
 

@@ -5,7 +5,7 @@ use Rattle.std.specs.Prelude.{slice_get, remove}
 use Rattle.std.specs.Option.{option_map}
 use Rattle.caf_message.specs.Lists.{pick}
 use Rattle.caf_message.proofs.ListLemmas.{NoneBefore, pick_at}
-use Rattle.caf_mailbox.specs.Caches.{taken_at}
+use Rattle.caf_mailbox.specs.Search.{taken_at}
 
 not_within : (i n : ℕ) → (i < n → ⊥) → n ≤ i
 not_within i n h = elim (cases_order i n) [ inl e ↦ omega arith | inr o ↦ elim o [ inl l ↦ absurd (h l) | inr l ↦ omega arith ] ]

@@ -1,7 +1,6 @@
 -- The envelopes that an actor has taken and not yet handled, in plain form.
-use Rattle.std.specs.Prelude.{ℕ, Bool, true, false, not, ◌||◌, List, [], ◌++◌, filter, remove, slice_get, Option, Some, None}
+use Rattle.std.specs.Prelude.{Bool, true, false, not, ◌||◌, List, [], ◌++◌, filter, Option, Some, None}
 use Rattle.std.specs.List.{list_any}
-use Rattle.std.specs.Option.{option_map}
 use Rattle.caf_types.specs.declared.notice.Priority.{Priority}
 use Rattle.caf_types.specs.declared.notice.Priority.TheVariants.{Urgent, Normal}
 use Rattle.caf_message.specs.declared.envelope.Taken.{Taken}
@@ -32,10 +31,6 @@ abbrev pub filed : CachedLists → List Taken → CachedLists
 filed lists batch = record { urgent = lists.urgent ++ filter is_urgent batch; normal = lists.normal ++ filter is_normal batch }
 
 -- ---- the next envelope
-
--- the item at a place, and the others in their order
-abbrev pub taken_at : {A : Type 0} → List A → ℕ → Option (A × List A)
-taken_at xs i = option_map (λ x. (x, remove xs i)) (slice_get xs i)
 
 -- the urgent one, if there is one, and the lists without it; else the normal one
 abbrev pub urgent_else_normal : CachedLists → Option (Taken × List Taken) → Option (Taken × List Taken) → Option (Taken × CachedLists)

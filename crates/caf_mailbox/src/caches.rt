@@ -26,7 +26,10 @@ impl Model for Caches {
 
     ghost Value = { CachedLists };
 
-    ghost view = { λ caches. record { urgent = map plain_envelope caches.urgent.items; normal = map plain_envelope caches.normal.items } };
+    ghost view = { λ caches. record {
+      urgent = map plain_envelope caches.urgent.items;
+      normal = map plain_envelope caches.normal.items;
+    } };
 }
 
 impl Caches {
@@ -61,7 +64,8 @@ impl Caches {
     /// normal list. The others keep their order. None exactly where none is eligible. It takes no
     /// memory.
     pub fn next<E: Eligible>(&mut self, test: &E) -> Option<Envelope>
-        ensures next { option_map (λ envelope. (plain_envelope envelope, self.new)) result ≡ next_of (E.test test.now) self.old }
+        ensures next { option_map (λ envelope. (plain_envelope envelope, self.new)) result
+            ≡ next_of (E.test test.now) self.old }
         ensures some { is_some result ≡ has_eligible (E.test test.now) self.old }
         ensures kept { IfNone result (self.new ≡ self.old) }
     {

@@ -16,8 +16,10 @@ pub(crate) fn make_room(
 ) -> Result<(), Memory>
     ensures urgent { urgent.new.items ≡ urgent.old.items }
     ensures normal { normal.new.items ≡ normal.old.items }
-    ensures urgent_room { OnOk result (deque_len urgent.new + count_by (λ e. definitions.is_urgent (plain_envelope e)) batch.now ≤ deque_capacity urgent.new) }
-    ensures normal_room { OnOk result (deque_len normal.new + count_by (λ e. is_normal (plain_envelope e)) batch.now ≤ deque_capacity normal.new) }
+    ensures urgent_room { OnOk result
+        (deque_len urgent.new + count_by (λ e. definitions.is_urgent (plain_envelope e)) batch.now ≤ deque_capacity urgent.new) }
+    ensures normal_room { OnOk result
+        (deque_len normal.new + count_by (λ e. is_normal (plain_envelope e)) batch.now ≤ deque_capacity normal.new) }
 {
     let urgent_count = count_urgent(batch);
     urgent.reserve(urgent_count)?;
@@ -55,8 +57,10 @@ pub(crate) fn file(
 )
     requires urgent_room { deque_len urgent.old + count_by (λ e. definitions.is_urgent (plain_envelope e)) batch.items ≤ deque_capacity urgent.old }
     requires normal_room { deque_len normal.old + count_by (λ e. is_normal (plain_envelope e)) batch.items ≤ deque_capacity normal.old }
-    ensures urgent { map plain_envelope urgent.new.items ≡ map plain_envelope urgent.old.items ++ filter definitions.is_urgent (map plain_envelope batch.items) }
-    ensures normal { map plain_envelope normal.new.items ≡ map plain_envelope normal.old.items ++ filter is_normal (map plain_envelope batch.items) }
+    ensures urgent { map plain_envelope urgent.new.items
+        ≡ map plain_envelope urgent.old.items ++ filter definitions.is_urgent (map plain_envelope batch.items) }
+    ensures normal { map plain_envelope normal.new.items
+        ≡ map plain_envelope normal.old.items ++ filter is_normal (map plain_envelope batch.items) }
 {
     for envelope in batch {
         match envelope.priority {

@@ -1,7 +1,7 @@
-use Rattle.std.proofs.Common.{◌≡◌, ◌∙◌, ◌+◌, ◌-◌, ◌≤◌, ap, arith, length, count_by}
+use Rattle.std.proofs.Common.{◌+◌, ◌-◌, ◌≤◌, arith, length}
 use Rattle.std.specs.VecDeque.{deque_len, deque_capacity}
 use Rattle.caf_message.specs.Envelope.{plain_envelope}
-use Rattle.caf_mailbox.specs.Caches.{is_urgent, is_normal}
+use Rattle.caf_mailbox.specs.Caches.{is_urgent}
 use Rattle.caf_mailbox.proofs.FilingLemmas.{count_both}
 use Rattle.caf_mailbox.proofs.filing.make_room.Goals as goal
 

@@ -1,8 +1,7 @@
-use Rattle.std.proofs.Common.{◌≡◌, ◌∙◌, sym, ap, map, length, Some, Option, arith, below_more, subst, get_or, List, ◌<◌}
+use Rattle.std.proofs.Common.{◌≡◌, ◌∙◌, sym, ap, map, length, Some, arith, below_more, get_or}
 use Rattle.std.specs.Prelude.{slice_get}
-use Rattle.caf_message.specs.declared.envelope.Taken.{Taken}
 use Rattle.caf_message.specs.Envelope.{plain_envelope}
-use Rattle.caf_message.proofs.ListLemmas.{pick_none, NoneBefore}
+use Rattle.caf_message.proofs.ListLemmas.{pick_none}
 use Rattle.caf_mailbox.proofs.SearchLemmas.{map_set_kept, get_map, length_map, pick_is}
 use Rattle.caf_mailbox.proofs.search.first_eligible.Goals as goal
 

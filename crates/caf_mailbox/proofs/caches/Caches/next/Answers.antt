@@ -1,5 +1,4 @@
-use Rattle.std.proofs.Common.{◌≡◌, ◌∙◌, Bool, is_some, sym, ap, true}
-use Rattle.caf_mailbox.specs.Caches.{CachedLists, has_eligible}
+use Rattle.std.proofs.Common.{◌∙◌, is_some, sym, ap}
 use Rattle.caf_mailbox.proofs.CachesLemmas.{some_map, some_urgent, some_normal}
 use Rattle.caf_mailbox.proofs.caches.Caches.next.Goals as goal
 
