@@ -1,0 +1,4 @@
+pub mod FilingLemmas
+pub mod SearchLemmas
+pub mod CachesLemmas
+pub mod NextLemmas
