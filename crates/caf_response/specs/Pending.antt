@@ -1,5 +1,5 @@
 -- The own requests of an actor that wait for their response.
-use Rattle.std.specs.Prelude.{ℕ, ◌+◌, ◌<◌, ◌^◌, ◌==◌, ◌||◌, Bool, List, [], ◌∷◌, ◌++◌, Option, Some, None}
+use Rattle.std.specs.Prelude.{◌≡◌, ℕ, ◌+◌, ◌<◌, ◌≤◌, count_by, ◌^◌, ◌==◌, ◌||◌, Bool, List, [], ◌∷◌, ◌++◌, Option, Some, None}
 use Rattle.std.specs.List.{list_any}
 use Rattle.caf_types.specs.declared.shape.TypeId.{TypeId}
 use Rattle.caf_message.specs.Lists.{pick}
@@ -60,3 +60,15 @@ resolved r number = from_multiplexed r number (pick (has_number number) r.multip
 -- no request waits any more, and the next number stays
 abbrev pub forgotten : WaitingRequests → WaitingRequests
 forgotten r = record { next = r.next; awaited = []; multiplexed = [] }
+
+-- ---- what always holds
+
+abbrev pub waiting_count : WaitingRequests → ℕ → ℕ
+waiting_count r number = count_by (has_number number) r.awaited + count_by (has_number number) r.multiplexed
+
+-- numbers are given from 1 on, and a number waits at most once, and only after it was given
+pub record AreNumbered (r : WaitingRequests) : Type 0 where
+  pub next : 1 ≤ r.next
+  pub zero : waiting_count r 0 ≡ 0
+  pub once : (number : ℕ) → waiting_count r number ≤ 1
+  pub given : (number : ℕ) → r.next ≤ number → waiting_count r number ≡ 0

@@ -22,3 +22,6 @@ pub use fault::IssueFault;
 pub use holds::Holds;
 pub use pending::{Mode, Pending, Waiting};
 pub use promise::{Handoff, Promise, Reply};
+
+#[cfg(test)]
+mod tests;

@@ -1,9 +1,9 @@
-ghost use Rattle.std.specs.Prelude.{◌≡◌, ◌↔◌, ◌+◌, ◌<◌, IfOk, OnOk, OnErr, Err, IfNone, is_some, MatchOption, None, Some, length, remove, slice_index_or, [], ◌∷◌, ◌++◌};
+ghost use Rattle.std.specs.Prelude.{◌≡◌, false, ◌↔◌, ◌+◌, ◌<◌, IfOk, OnOk, OnErr, Err, IfNone, is_some, MatchOption, None, Some, length, remove, slice_index_or, [], ◌∷◌, ◌++◌};
 ghost use Rattle.std.specs.Option.{option_map};
 ghost use Rattle.caf_message.specs.Lists.{pick};
 ghost use Rattle.caf_response.specs.declared.pending.Waiting.{Waiting};
 ghost use Rattle.caf_response.specs.declared.fault.IssueFault.TheVariants.{Spent};
-ghost use Rattle.caf_response.specs.Pending.{no_requests, issued, HasSpent, top_number, resolved, is_waiting, forgotten, has_number, add_waiting};
+ghost use Rattle.caf_response.specs.Pending.{no_requests, issued, HasSpent, top_number, resolved, is_waiting, forgotten, has_number, add_waiting, AreNumbered};
 ghost use Rattle.caf_response.specs.Filed.{AreFiled, waiting_in, seen_as};
 
 use crate::IssueFault;
@@ -47,13 +47,13 @@ pub struct Pending {
 
 impl Model for Pending {
     ghost use Rattle.caf_response.specs.Pending.{WaitingRequests};
-    ghost use Rattle.caf_response.specs.Filed.{seen_as, AreFiled};
+    ghost use Rattle.caf_response.specs.Filed.{seen_as, IsInForm};
 
     ghost Value = { WaitingRequests };
 
     ghost view = { λ pending. seen_as pending.next pending.awaited.items pending.multiplexed.entries };
 
-    ghost invariant = { λ pending. AreFiled pending.next pending.multiplexed.entries };
+    ghost invariant = { λ pending. IsInForm pending.next pending.awaited.items pending.multiplexed.entries };
 }
 
 impl Pending {
@@ -76,6 +76,7 @@ impl Pending {
         ensures issued { OnOk result (self.new ≡ issued self.old mode tag expected) }
         ensures spent { (result ≡ Err Spent) ↔ HasSpent self.old }
         ensures kept { OnErr result (self.new ≡ self.old) }
+        ensures numbered { AreNumbered self.new }
     {
         if self.next > LAST_NUMBER {
             return Err(IssueFault::Spent);
@@ -94,7 +95,8 @@ impl Pending {
     /// The number of the awaited request issued last; None exactly where nothing is awaited. It
     /// takes no memory.
     pub fn top(&self) -> Option<u64>
-        ensures { result ≡ top_number self.now.awaited }
+        ensures top { result ≡ top_number self.now.awaited }
+        ensures numbered { AreNumbered self.now }
     {
         match self.awaited.front() {
             Some(waiting) => Some(waiting.number),
@@ -108,6 +110,8 @@ impl Pending {
         ensures resolved { option_map (λ waiting. (waiting, self.new)) result ≡ resolved self.old number }
         ensures some { is_some result ≡ is_waiting self.old number }
         ensures kept { IfNone result (self.new ≡ self.old) }
+        ensures gone { is_waiting self.new number ≡ false }
+        ensures numbered { AreNumbered self.new }
     {
         match self.multiplexed.remove(&number) {
             Some(waiting) => Some(waiting),
@@ -118,7 +122,8 @@ impl Pending {
     /// Lets no request wait any more, as when the actor quits. The next number stays. It takes no
     /// memory.
     pub fn forget(&mut self)
-        ensures { self.new ≡ forgotten self.old }
+        ensures forgotten { self.new ≡ forgotten self.old }
+        ensures numbered { AreNumbered self.new }
     {
         self.awaited.clear();
         self.multiplexed.clear();
