@@ -1,0 +1,4 @@
+pub mod PickLemmas
+pub mod LineLemmas
+pub mod FiledLemmas
+pub mod NumberLemmas
