@@ -1,4 +1,4 @@
-ghost use Rattle.std.specs.Prelude.{◌≡◌, ◌↔◌, map, OnOk, OnErr, IfErr, IfNone, IsNone, is_some};
+ghost use Rattle.std.specs.Prelude.{◌≡◌, ◌↔◌, ◌+◌, length, map, OnOk, OnErr, IfErr, IfNone, IsNone, is_some};
 ghost use Rattle.std.specs.Option.{option_map};
 ghost use Rattle.caf_message.specs.Envelope.{plain_envelope};
 ghost use Rattle.caf_mailbox.specs.Caches.{nothing_cached, filed, next_of, has_eligible, first_of};
@@ -58,6 +58,13 @@ impl Caches {
             }
             Err(memory) => Err((batch, memory)),
         }
+    }
+
+    /// The number of envelopes in both lists.
+    pub fn len(&self) -> u64
+        ensures { result ≡ length self.now.urgent + length self.now.normal }
+    {
+        self.urgent.len() as u64 + self.normal.len() as u64
     }
 
     /// Takes out the first eligible envelope of the urgent list, else the first eligible one of the
