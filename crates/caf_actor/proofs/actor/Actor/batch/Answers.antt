@@ -5,7 +5,8 @@ use Rattle.caf_types.specs.TypeTable.{seen}
 use Rattle.caf_message.specs.declared.envelope.Taken.{Taken}
 use Rattle.caf_message.specs.Envelope.{EnvelopeFits, plain_envelope}
 use Rattle.caf_actor.specs.declared.snapshot.Snapshot.{Snapshot}
-use Rattle.caf_actor.specs.Actor.{CachesFit}
+use Rattle.caf_mailbox.specs.Caches.{CachedLists}
+use Rattle.caf_actor.specs.Actor.{ActorState, CachesFit}
 use Rattle.caf_actor.specs.Snapshot.{Handled, cached}
 use Rattle.caf_actor.proofs.CachedLemmas.{filed_fit}
 use Rattle.caf_actor.proofs.DrainLemmas.{cached_drain}
@@ -16,7 +17,7 @@ drain-requires-clause-fits g c =
     let shape_of = shape_at (seen c.args.table.now) in
     let fits = subst (λ (es : List Taken). AllByRecursion (EnvelopeFits shape_of) es) (sym c.in_ok-batch.ensures.kept) c.requires.fits in
     subst (λ (s : Snapshot g.row.B.Denot). CachesFit shape_of s.caches) (sym c.in_ok-file.ensures)
-    (filed_fit shape_of c.self.inside.snapshot.caches (map plain_envelope c.in_ok-batch.batch) (subst (λ (s : Snapshot g.row.B.Denot). CachesFit shape_of s.caches) ? c.requires.lists_fit) fits)
+    (filed_fit shape_of c.self.inside.snapshot.caches (map plain_envelope c.in_ok-batch.batch) (subst (λ (lists : CachedLists). CachesFit shape_of lists) (ap (λ (a : ActorState g.row.B.Denot). a.snapshot.caches) (sym c.self.view_is)) c.requires.lists_fit) fits)
 
 pub overflow_sub-left : goal.overflow_sub-left
 overflow_sub-left g c =
