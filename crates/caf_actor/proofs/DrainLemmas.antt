@@ -1,12 +1,16 @@
 -- The drain, one envelope at a time.
-use Rattle.std.proofs.Common.{◌≡◌, ℕ, zero, suc, ◌+◌, ◌≤◌, Option, Some, None, refl, arith, ◌∙◌}
+use Rattle.std.proofs.Common.{◌≡◌, ℕ, zero, suc, ◌+◌, ◌≤◌, List, [], Option, Some, None, refl, arith, ◌∙◌}
+use Rattle.std.specs.List.{AllByRecursion}
+use Rattle.caf_types.specs.Form.{Form}
+use Rattle.caf_message.specs.Envelope.{EnvelopeFits}
 use Rattle.caf_message.specs.declared.envelope.Taken.{Taken}
 use Rattle.caf_actor.specs.declared.snapshot.Snapshot.{Snapshot}
 use Rattle.caf_actor.specs.Rules.{Rules}
 use Rattle.caf_actor.specs.Snapshot.{Handled, cached, next_envelope}
 use Rattle.caf_actor.specs.Handling.{handle_one}
-use Rattle.caf_actor.specs.Drain.{turn, drain_for, drain}
-use Rattle.caf_actor.proofs.CachedLemmas.{left_envelope, cached_one}
+use Rattle.caf_actor.specs.Actor.{CachesFit}
+use Rattle.caf_actor.specs.Drain.{turn, drain_for, drain, with_batch, batch_of}
+use Rattle.caf_actor.proofs.CachedLemmas.{AllCached, left_envelope, cached_one, all_cached_one, filed_fit}
 
 module _ {S : Type 0} (rules : Rules S) where
   pub cached_next : (s : Snapshot S) (p : Taken × Snapshot S) → next_envelope rules s ≡ Some p → cached s ≡ suc (cached p.1)
@@ -62,3 +66,12 @@ module _ {S : Type 0} (rules : Rules S) where
       let left : cached u.0 ≡ suc (cached p.1) = cached_next u.0 p q in
       let less : cached (handle_one rules (p.1, u.1) p.0).0 ≤ cached p.1 = cached_one rules (p.1, u.1) p.0 in
       omega arith) (cached t.0) t (omega arith)
+
+  -- what fits in the lists and in the batch fits in the lists after it
+  pub batch_fit : (shape_of : ℕ → Option Form) (s : Snapshot S) (batch : List Taken) → CachesFit shape_of s.caches → AllByRecursion (EnvelopeFits shape_of) batch → CachesFit shape_of (batch_of rules s batch).0.caches
+  batch_fit shape_of s batch h k =
+      let filed = filed_fit shape_of s.caches batch h k in
+      let t : Handled S = (with_batch s batch, []) in
+      let after = drain_keeps (λ u. AllCached (EnvelopeFits shape_of) u.0.caches) (λ u p q all.
+      all_cached_one rules (EnvelopeFits shape_of) (p.1, u.1) p.0 ((left_envelope rules (EnvelopeFits shape_of) u.0 p q).others all)) (cached t.0) t (filed.urgent, filed.normal) in
+      record { urgent = after.0; normal = after.1 }

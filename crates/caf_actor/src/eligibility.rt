@@ -1,19 +1,14 @@
 //! Which envelopes the actor may handle now.
-ghost use Rattle.std.specs.Prelude.{◌≡◌, IfNone, bytes_eq};
-ghost use Rattle.std.specs.Option.{option_copied, option_map};
-ghost use Rattle.caf_words.specs.Several.{ids_of};
-ghost use Rattle.caf_message.specs.Content.{ids_in};
+ghost use Rattle.std.specs.Prelude.{◌≡◌, IfNone};
+ghost use Rattle.std.specs.Option.{option_map};
 ghost use Rattle.caf_message.specs.Envelope.{plain_envelope};
 ghost use Rattle.caf_message.specs.declared.envelope.Plain.TheVariants as «plain»;
-ghost use Rattle.caf_actor.specs.Rules.{signature_for};
 ghost use Rattle.caf_actor.specs.Snapshot.{is_wanted, next_envelope};
 ghost use Rattle.caf_actor.specs.Snapshot as snapshot;
 
-use crate::{Behavior, Snapshot};
+use crate::{Behavior, Snapshot, signature_of};
 use caf_mailbox::Eligible;
 use caf_message::{Body, Envelope, Message};
-use caf_signature::{Interface, Signature};
-use caf_types::TypeId;
 
 /// What tells the eligible envelopes of an actor.
 #[derive(Drop)]
@@ -57,30 +52,6 @@ fn is_awaited(awaited: Option<u64>, number: u64) -> bool
         Some(top) => number == top,
         None => true,
     }
-}
-
-/// Whether the content has these types.
-pub(crate) fn has_types(message: &mut Message, types: &[TypeId]) -> bool
-    ensures answer { result ≡ bytes_eq (ids_of types.now) (ids_in message.old.content) }
-    ensures kept { message.new.content ≡ message.old.content }
-{
-    message.has_types(types)
-}
-
-/// The signature whose input has the types of the content.
-pub(crate) fn signature_of<'a>(
-    interface: &'a Interface,
-    message: &mut Message,
-) -> Option<&'a Signature>
-    ensures found { option_copied result ≡ signature_for interface.now (ids_in message.old.content) }
-    ensures kept { message.new.content ≡ message.old.content }
-{
-    for signature in interface.signatures().as_slice() {
-        if has_types(message, signature.input.as_slice()) {
-            return Some(signature);
-        }
-    }
-    None
 }
 
 /// Whether the behaviour doesn't keep the content for later. Only inputs of its interface are kept.

@@ -12,7 +12,7 @@ ghost use Rattle.caf_actor.specs.Rules.{MayBeGiven, InputFits, is_input};
 ghost use Rattle.caf_actor.specs.Handling.{response_input, failure_input};
 ghost use Rattle.caf_actor.specs.Handling as handling;
 
-use crate::eligibility::{has_types, signature_of};
+use crate::content::{has_types, signature_of};
 use crate::post::Posts;
 use crate::{Behavior, Input, Origin, Reaction, Snapshot};
 use caf_message::{Body, Envelope, Message};

@@ -17,6 +17,7 @@
 mod actor;
 mod answering;
 mod behavior;
+mod content;
 mod draining;
 mod eligibility;
 mod handling;
@@ -35,6 +36,7 @@ mod snapshot;
 pub use actor::Actor;
 pub use behavior::Behavior;
 pub use caf_message::{Plain, Taken};
+pub use content::signature_of;
 pub use input::{Input, Origin};
 pub use journal::{Journal, TakenBatch};
 pub use numbers::Numbers;

@@ -1,4 +1,4 @@
-use Rattle.std.proofs.Common.{◌≡◌, ◌∙◌, sym, ap, arith, subst, List, map}
+use Rattle.std.proofs.Common.{◌≡◌, ◌∙◌, sym, ap, arith, subst, List, [], map}
 use Rattle.std.specs.List.{AllByRecursion}
 use Rattle.caf_types.specs.Table.{shape_at}
 use Rattle.caf_types.specs.TypeTable.{seen}
@@ -8,8 +8,9 @@ use Rattle.caf_actor.specs.declared.snapshot.Snapshot.{Snapshot}
 use Rattle.caf_mailbox.specs.Caches.{CachedLists}
 use Rattle.caf_actor.specs.Actor.{ActorState, CachesFit}
 use Rattle.caf_actor.specs.Snapshot.{Handled, cached}
+use Rattle.caf_actor.specs.Drain.{drain, with_batch}
 use Rattle.caf_actor.proofs.CachedLemmas.{filed_fit}
-use Rattle.caf_actor.proofs.DrainLemmas.{cached_drain}
+use Rattle.caf_actor.proofs.DrainLemmas.{cached_drain, batch_fit}
 use Rattle.caf_actor.proofs.actor.Actor.batch.Goals as goal
 
 pub drain-requires-clause-fits : goal.drain-requires-clause-fits
@@ -26,3 +27,13 @@ overflow_sub-left g c =
     let before = c.len-filed.ensures in
     let now = c.len.ensures in
     omega arith
+
+pub returns-clause-fit : goal.returns-clause-fit
+returns-clause-fit g c = λ shape_of h k.
+    let rules = g.B.Behavior.rules in
+    let batch : List Taken = map plain_envelope c.args.batch in
+    let filed : with_batch c.args.self.now.snapshot batch ≡ c.file.new.self =
+    (λ i. with_batch (sym c.self.view_is i).snapshot (sym c.in_ok-batch.ensures.kept i)) ∙ sym c.in_ok-file.ensures in
+    let started : ◌≡◌ {A = Handled g.row.B.Denot} (with_batch c.args.self.now.snapshot batch, []) (c.file.new.self, c.new-posts.result) = λ i. (filed i, sym c.new-posts.ensures i) in
+    let after = ap (λ (t : Handled g.row.B.Denot). t.0) (ap (drain rules) started ∙ c.in_ok-drain.ensures) in
+    subst (λ (s : Snapshot g.row.B.Denot). CachesFit shape_of s.caches) after (batch_fit rules shape_of c.args.self.now.snapshot batch h k)

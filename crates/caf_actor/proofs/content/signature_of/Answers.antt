@@ -5,7 +5,7 @@ use Rattle.caf_words.specs.Several.{ids_of}
 use Rattle.caf_message.specs.Content.{ids_in}
 use Rattle.caf_actor.specs.Rules.{takes_ids}
 use Rattle.caf_actor.proofs.ListLemmas.{find_here, find_on}
-use Rattle.caf_actor.proofs.eligibility.signature_of.Goals as goal
+use Rattle.caf_actor.proofs.content.signature_of.Goals as goal
 
 pub returns-then-has_types-clause-found : goal.returns-then-has_types-clause-found
 returns-then-has_types-clause-found c =

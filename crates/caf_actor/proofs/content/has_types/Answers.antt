@@ -5,7 +5,7 @@ use Rattle.std.proofs.lemmas.Slice.Eq.{bytes_eq-Decides}
 use Rattle.caf_steps.specs.declared.reference.Reference.{Reference}
 use Rattle.caf_words.specs.Several.{ids_of}
 use Rattle.caf_message.specs.Content.{ids_in}
-use Rattle.caf_actor.proofs.eligibility.has_types.Goals as goal
+use Rattle.caf_actor.proofs.content.has_types.Goals as goal
 
 pub returns-clause-answer : goal.returns-clause-answer
 returns-clause-answer c =

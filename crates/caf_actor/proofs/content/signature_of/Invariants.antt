@@ -1,7 +1,7 @@
 use Rattle.std.proofs.Common.{◌≡◌, drop}
 use Rattle.caf_message.specs.Content.{ids_in}
 use Rattle.caf_actor.specs.Rules.{signature_for}
-use Rattle.caf_actor.proofs.eligibility.signature_of.Given as goal
+use Rattle.caf_actor.proofs.content.signature_of.Given as goal
 
 -- none before it has the types
 abbrev pub invariant-loop-signature : goal.invariant-loop-signature

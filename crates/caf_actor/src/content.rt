@@ -1,0 +1,32 @@
+//! The types of a content, and the signature that it meets.
+ghost use Rattle.std.specs.Prelude.{◌≡◌, bytes_eq};
+ghost use Rattle.std.specs.Option.{option_copied};
+ghost use Rattle.caf_words.specs.Several.{ids_of};
+ghost use Rattle.caf_message.specs.Content.{ids_in};
+ghost use Rattle.caf_actor.specs.Rules.{signature_for};
+
+use caf_message::Message;
+use caf_signature::{Interface, Signature};
+use caf_types::TypeId;
+
+/// Whether the content has these types.
+pub(crate) fn has_types(message: &mut Message, types: &[TypeId]) -> bool
+    ensures answer { result ≡ bytes_eq (ids_of types.now) (ids_in message.old.content) }
+    ensures kept { message.new.content ≡ message.old.content }
+{
+    message.has_types(types)
+}
+
+/// The signature of the interface whose input has the types of the content; None exactly where they
+/// are no input of it. It takes no memory.
+pub fn signature_of<'a>(interface: &'a Interface, message: &mut Message) -> Option<&'a Signature>
+    ensures found { option_copied result ≡ signature_for interface.now (ids_in message.old.content) }
+    ensures kept { message.new.content ≡ message.old.content }
+{
+    for signature in interface.signatures().as_slice() {
+        if has_types(message, signature.input.as_slice()) {
+            return Some(signature);
+        }
+    }
+    None
+}

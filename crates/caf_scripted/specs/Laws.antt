@@ -1,0 +1,276 @@
+-- The laws of behaviours, for scripted ones.
+use Rattle.std.specs.Prelude.{◌≡◌, ◌≢◌, ℕ, ◌+◌, ◌<◌, ◌≤◌, nat_le, bytes_eq, if◌then◌else◌, Bool, true, false, List, [], ◌∷◌, length, Option, Some, None, refl, find, Contains, IsTrue}
+use Rattle.std.proofs.Common.{suc, ap, sym, ◌∙◌, arith}
+use Rattle.std.proofs.lemmas.Bool.{lt-ltb, leb-true}
+use Rattle.std.proofs.lemmas.Slice.Eq.{bytes_eq-Decides}
+use Rattle.std.specs.List.{AllByRecursion}
+use Rattle.std.specs.FinMap as finite
+use Rattle.caf_types.specs.Form.{Form}
+use Rattle.caf_types.specs.Table.{Table, shape_at}
+use Rattle.caf_types.specs.declared.sec.Sec.TheVariants as sec
+use Rattle.caf_words.specs.Several.{ids_of}
+use Rattle.caf_message.specs.Content.{ids_in}
+use Rattle.caf_message.specs.Entries.{TableEntries, entry_shape}
+use Rattle.caf_message.specs.Fits.{Fits}
+use Rattle.caf_signature.specs.declared.interface.Signature.{Signature}
+use Rattle.caf_actor.specs.declared.input.Origin.{Origin}
+use Rattle.caf_actor.specs.Answering.{is_asked}
+use Rattle.caf_actor.specs.PlainInput.{PlainInput, Start, Stop, Content, Response, Failed, Down}
+use Rattle.caf_actor.specs.PlainReaction.{PlainAnswer, PlainReaction}
+use Rattle.caf_actor.specs.PlainReaction as answer
+use Rattle.caf_actor.specs.Rules.{Rules, MayBeGiven, InputFits, OutputFits, AnswerFits, ReactionFits, HasTargets, IsTarget, IsSameActor, signature_for, declared_for, takes_ids, is_input, output_targets, answer_targets, outputs_count, StaysValid, StaysSameActor, SkipsInputs, FitsItsTable, FitsItsEntries, AnswersRequests, AnswersAsDeclared, SendsToPeers, SendsFew, StopsWithExits}
+use Rattle.caf_actor.proofs.InterfaceLemmas.{found_takes}
+use Rattle.caf_scripted.specs.declared.act.Act.{Act}
+use Rattle.caf_scripted.specs.declared.act.Sending.{Sending}
+use Rattle.caf_scripted.specs.declared.act.Sending.TheVariants as sending
+use Rattle.caf_scripted.specs.declared.act.Reply.{Reply}
+use Rattle.caf_scripted.specs.declared.act.Reply.TheVariants as reply
+use Rattle.caf_scripted.specs.declared.scripted.Scripted.{Scripted}
+use Rattle.caf_scripted.specs.Scripted.{act_now, first_peer, takes_first, echo_by, echo, ignore, few, answer_by, output_by, outputs_by, reaction_to, reaction, scripted_rules}
+
+abbrev pub AnyValue : Scripted → Type 0
+AnyValue s = Unit {0}
+
+pub stays_valid : StaysValid AnyValue scripted_rules
+stays_valid s i valid given = tt
+
+pub stays_same_actor : StaysSameActor AnyValue scripted_rules
+stays_same_actor s Start valid given = record { place = refl; interface = refl; peers = refl }
+stays_same_actor s Stop valid given = record { place = refl; interface = refl; peers = refl }
+stays_same_actor s (Content origin words) valid given = record { place = refl; interface = refl; peers = refl }
+stays_same_actor s (Response tag words) valid given = record { place = refl; interface = refl; peers = refl }
+stays_same_actor s (Failed tag why) valid given = record { place = refl; interface = refl; peers = refl }
+stays_same_actor s (Down place why) valid given = record { place = refl; interface = refl; peers = refl }
+
+-- ---- skips
+
+first_is_input : (interface : List Signature) (ids : List ℕ) → takes_first interface ids ≡ true → is_input interface ids ≡ true
+first_is_input [] ids h = cc
+first_is_input (s ∷ ss) ids h = rw h refl
+
+pub skips_inputs : SkipsInputs AnyValue scripted_rules
+skips_inputs s ids valid h = go s.is_asleep refl
+  where
+    go : (b : Bool) → s.is_asleep ≡ b → is_input s.interface ids ≡ true
+    go true e = first_is_input s.interface ids (rw e at h)
+    go false e = let no : false ≡ true = rw e at h in cc
+
+-- ---- what fits
+
+echo_fits : (shape_of : ℕ → Option Form) (found : Option Signature) (words : List ℕ) → Fits shape_of words → AnswerFits shape_of (echo_by found words)
+echo_fits shape_of None words h = tt
+echo_fits shape_of (Some s) words h = go (bytes_eq (ids_of s.result) (ids_of s.input))
+  where
+    go : (b : Bool) → AnswerFits shape_of (if b then answer.Value words else answer.Error sec.Failed)
+    go true = h
+    go false = tt
+
+ignore_fits : (shape_of : ℕ → Option Form) (origin : Origin) → AnswerFits shape_of (ignore origin)
+ignore_fits shape_of origin = go (is_asked origin)
+  where
+    go : (b : Bool) → AnswerFits shape_of (if b then answer.Error sec.Failed else answer.Nothing)
+    go true = tt
+    go false = tt
+
+answer_fits : (shape_of : ℕ → Option Form) (s : Scripted) (to : ℕ) (origin : Origin) (words : List ℕ) (r : Reply) → Fits shape_of words → AnswerFits shape_of (answer_by s to origin words r)
+answer_fits shape_of s to origin words reply.Echo h = echo_fits shape_of (signature_for s.interface (ids_in words)) words h
+answer_fits shape_of s to origin words reply.Fail h = tt
+answer_fits shape_of s to origin words reply.Ignore h = ignore_fits shape_of origin
+answer_fits shape_of s to origin words reply.Delegate h = tt
+answer_fits shape_of s to origin words reply.Hold h = tt
+
+output_fits : (shape_of : ℕ → Option Form) (s : Scripted) (to : ℕ) (origin : Origin) (words : List ℕ) (what : Sending) → Fits shape_of words → OutputFits shape_of (output_by s to origin words what)
+output_fits shape_of s to origin words sending.Tell h = h
+output_fits shape_of s to origin words sending.Fan h = h
+output_fits shape_of s to origin words (sending.Ask mode tag expected) h = h
+output_fits shape_of s to origin words (sending.Exit why) h = tt
+output_fits shape_of s to origin words sending.Link h = tt
+output_fits shape_of s to origin words sending.Unlink h = tt
+output_fits shape_of s to origin words sending.Watch h = tt
+output_fits shape_of s to origin words sending.Unwatch h = tt
+output_fits shape_of s to origin words (sending.Deliver requester number) h = h
+output_fits shape_of s to origin words (sending.Break requester number why) h = tt
+
+outputs_fit : (shape_of : ℕ → Option Form) (s : Scripted) (to : ℕ) (origin : Origin) (words : List ℕ) (what : Option Sending) → Fits shape_of words → AllByRecursion (OutputFits shape_of) (outputs_by s to origin words what)
+outputs_fit shape_of s to origin words None h = tt
+outputs_fit shape_of s to origin words (Some what) h = (output_fits shape_of s to origin words what h, tt)
+
+reaction_fits : (shape_of : ℕ → Option Form) (s : Scripted) (to : ℕ) (origin : Origin) (words : List ℕ) (a : Act) → Fits shape_of words → ReactionFits shape_of (reaction_to s to origin words a)
+reaction_fits shape_of s to origin words a h = record { outputs = outputs_fit shape_of s to origin words a.sending h; answer = answer_fits shape_of s to origin words a.reply h }
+
+all_fit : (shape_of : ℕ → Option Form) (s : Scripted) (i : PlainInput) → InputFits shape_of i → ReactionFits shape_of (reaction s i)
+all_fit shape_of s Start h = record { outputs = tt; answer = tt }
+all_fit shape_of s Stop h = record { outputs = tt; answer = tt }
+all_fit shape_of s (Content origin words) h = reaction_fits shape_of s (first_peer s.place s.peers) origin words (act_now s) h
+all_fit shape_of s (Response tag words) h = record { outputs = tt; answer = tt }
+all_fit shape_of s (Failed tag why) h = record { outputs = tt; answer = tt }
+all_fit shape_of s (Down place why) h = record { outputs = tt; answer = tt }
+
+pub fits_its_table : (entries : TableEntries) → FitsItsTable AnyValue scripted_rules entries
+fits_its_table entries t s i has valid given h = all_fit (shape_at t) s i h
+
+pub fits_its_entries : (entries : TableEntries) → FitsItsEntries AnyValue scripted_rules entries
+fits_its_entries entries s i valid given h = all_fit (entry_shape entries) s i h
+
+-- ---- answers
+
+abbrev is_nothing : PlainAnswer → Bool
+is_nothing answer.Nothing = true
+is_nothing _ = false
+
+echo_is_no_nothing : (found : Option Signature) (words : List ℕ) → is_nothing (echo_by found words) ≡ false
+echo_is_no_nothing None words = refl
+echo_is_no_nothing (Some s) words = go (bytes_eq (ids_of s.result) (ids_of s.input))
+  where
+    go : (b : Bool) → is_nothing (if b then answer.Value words else answer.Error sec.Failed) ≡ false
+    go true = refl
+    go false = refl
+
+is_no_nothing : (s : Scripted) (to : ℕ) (origin : Origin) (words : List ℕ) (r : Reply) → is_asked origin ≡ true → is_nothing (answer_by s to origin words r) ≡ false
+is_no_nothing s to origin words reply.Echo asked = echo_is_no_nothing (signature_for s.interface (ids_in words)) words
+is_no_nothing s to origin words reply.Fail asked = refl
+is_no_nothing s to origin words reply.Ignore asked = rw asked refl
+is_no_nothing s to origin words reply.Delegate asked = refl
+is_no_nothing s to origin words reply.Hold asked = refl
+
+pub answers_requests : AnswersRequests AnyValue scripted_rules
+answers_requests s origin words valid given asked q =
+    let here = is_no_nothing s (first_peer s.place s.peers) origin words (act_now s).reply (lt-ltb 0 origin.mid.number asked) in
+    let no : false ≡ true = sym here ∙ ap is_nothing q in
+    cc
+
+echo_declares : (interface : List Signature) (found : Option Signature) (words value : List ℕ) → signature_for interface (ids_in words) ≡ found → echo_by found words ≡ answer.Value value → declared_for interface (ids_in words) ≡ Some (ids_in value)
+echo_declares interface None words value e q = cc
+echo_declares interface (Some s) words value e q = go (bytes_eq (ids_of s.result) (ids_of s.input)) refl
+  where
+    go : (b : Bool) → bytes_eq (ids_of s.result) (ids_of s.input) ≡ b → declared_for interface (ids_in words) ≡ Some (ids_in value)
+    go true same =
+        let kept : ◌≡◌ {A = PlainAnswer} (answer.Value words) (answer.Value value) = rw same at q in
+        let it : words ≡ value = cc in
+        let takes = found_takes (ids_in words) interface s e in
+        let result = (bytes_eq-Decides (ids_of s.result) (ids_of s.input)).0 same in
+        rw e (ap (λ (ids : List ℕ). Some ids) (result ∙ takes ∙ ap ids_in it))
+    go false other = let no : ◌≡◌ {A = PlainAnswer} (answer.Error sec.Failed) (answer.Value value) = rw other at q in cc
+
+ignores : (origin : Origin) (value : List ℕ) → ignore origin ≡ answer.Value value → ⊥
+ignores origin value q = go (is_asked origin) refl
+  where
+    go : (b : Bool) → is_asked origin ≡ b → ⊥
+    go true e = let no : ◌≡◌ {A = PlainAnswer} (answer.Error sec.Failed) (answer.Value value) = rw e at q in cc
+    go false e = let no : ◌≡◌ {A = PlainAnswer} answer.Nothing (answer.Value value) = rw e at q in cc
+
+answer_declares : (s : Scripted) (to : ℕ) (origin : Origin) (words value : List ℕ) (r : Reply) → answer_by s to origin words r ≡ answer.Value value → declared_for s.interface (ids_in words) ≡ Some (ids_in value)
+answer_declares s to origin words value reply.Echo q = echo_declares s.interface (signature_for s.interface (ids_in words)) words value refl q
+answer_declares s to origin words value reply.Fail q = cc
+answer_declares s to origin words value reply.Ignore q = absurd (ignores origin value q)
+answer_declares s to origin words value reply.Delegate q = cc
+answer_declares s to origin words value reply.Hold q = cc
+
+pub answers_as_declared : AnswersAsDeclared AnyValue scripted_rules
+answers_as_declared s origin words value valid given q = answer_declares s (first_peer s.place s.peers) origin words value (act_now s).reply q
+
+-- ---- targets
+
+first_is_target : (place : ℕ) (peers : List ℕ) → Contains (place ∷ peers) (first_peer place peers)
+first_is_target place [] = (0, omega arith, refl)
+first_is_target place (p ∷ ps) = (1, omega arith, refl)
+
+behind : (xs : List ℕ) (x y : ℕ) → Contains xs x → Contains (y ∷ xs) x
+behind xs x y h = let within = h.1 in (suc h.0, omega arith, h.2)
+
+peers_are_targets : (all peers : List ℕ) (place : ℕ) → ((p : ℕ) → Contains peers p → Contains all p) → AllByRecursion (Contains (place ∷ all)) peers
+peers_are_targets all [] place within = tt
+peers_are_targets all (p ∷ ps) place within =
+    (behind all p place (within p (0, omega arith, refl)), peers_are_targets all ps place (λ q h. within q (behind ps q p h)))
+
+few_are_targets : (s : Scripted) → AllByRecursion (IsTarget scripted_rules s) (few s.peers)
+few_are_targets s = go (nat_le (length s.peers) 1024)
+  where
+    go : (b : Bool) → AllByRecursion (IsTarget scripted_rules s) (if b then s.peers else [])
+    go true = peers_are_targets s.peers s.peers s.place (λ p h. h)
+    go false = tt
+
+output_targets_are : (s : Scripted) (to : ℕ) (origin : Origin) (words : List ℕ) (what : Sending) → IsTarget scripted_rules s to → AllByRecursion (IsTarget scripted_rules s) (output_targets (output_by s to origin words what))
+output_targets_are s to origin words sending.Tell h = (h, tt)
+output_targets_are s to origin words sending.Fan h = few_are_targets s
+output_targets_are s to origin words (sending.Ask mode tag expected) h = (h, tt)
+output_targets_are s to origin words (sending.Exit why) h = (h, tt)
+output_targets_are s to origin words sending.Link h = (h, tt)
+output_targets_are s to origin words sending.Unlink h = (h, tt)
+output_targets_are s to origin words sending.Watch h = (h, tt)
+output_targets_are s to origin words sending.Unwatch h = (h, tt)
+output_targets_are s to origin words (sending.Deliver requester number) h = tt
+output_targets_are s to origin words (sending.Break requester number why) h = tt
+
+outputs_targets_are : (s : Scripted) (to : ℕ) (origin : Origin) (words : List ℕ) (what : Option Sending) → IsTarget scripted_rules s to → AllByRecursion (λ o. AllByRecursion (IsTarget scripted_rules s) (output_targets o)) (outputs_by s to origin words what)
+outputs_targets_are s to origin words None h = tt
+outputs_targets_are s to origin words (Some what) h = (output_targets_are s to origin words what h, tt)
+
+echo_has_none : (s : Scripted) (found : Option Signature) (words : List ℕ) → AllByRecursion (IsTarget scripted_rules s) (answer_targets (echo_by found words))
+echo_has_none s None words = tt
+echo_has_none s (Some signature) words = go (bytes_eq (ids_of signature.result) (ids_of signature.input))
+  where
+    go : (b : Bool) → AllByRecursion (IsTarget scripted_rules s) (answer_targets (if b then answer.Value words else answer.Error sec.Failed))
+    go true = tt
+    go false = tt
+
+ignore_has_none : (s : Scripted) (origin : Origin) → AllByRecursion (IsTarget scripted_rules s) (answer_targets (ignore origin))
+ignore_has_none s origin = go (is_asked origin)
+  where
+    go : (b : Bool) → AllByRecursion (IsTarget scripted_rules s) (answer_targets (if b then answer.Error sec.Failed else answer.Nothing))
+    go true = tt
+    go false = tt
+
+answer_targets_are : (s : Scripted) (to : ℕ) (origin : Origin) (words : List ℕ) (r : Reply) → IsTarget scripted_rules s to → AllByRecursion (IsTarget scripted_rules s) (answer_targets (answer_by s to origin words r))
+answer_targets_are s to origin words reply.Echo h = echo_has_none s (signature_for s.interface (ids_in words)) words
+answer_targets_are s to origin words reply.Fail h = tt
+answer_targets_are s to origin words reply.Ignore h = ignore_has_none s origin
+answer_targets_are s to origin words reply.Delegate h = (h, tt)
+answer_targets_are s to origin words reply.Hold h = tt
+
+pub sends_to_peers : SendsToPeers AnyValue scripted_rules
+sends_to_peers s Start valid given = record { outputs = tt; answer = tt }
+sends_to_peers s Stop valid given = record { outputs = tt; answer = tt }
+sends_to_peers s (Content origin words) valid given =
+    let to = first_peer s.place s.peers in
+    let h = first_is_target s.place s.peers in
+    record { outputs = outputs_targets_are s to origin words (act_now s).sending h; answer = answer_targets_are s to origin words (act_now s).reply h }
+sends_to_peers s (Response tag words) valid given = record { outputs = tt; answer = tt }
+sends_to_peers s (Failed tag why) valid given = record { outputs = tt; answer = tt }
+sends_to_peers s (Down place why) valid given = record { outputs = tt; answer = tt }
+
+-- ---- how many
+
+few_length : (peers : List ℕ) → length (few peers) + 0 ≤ 1024
+few_length peers = go (nat_le (length peers) 1024) refl
+  where
+    go : (b : Bool) → nat_le (length peers) 1024 ≡ b → length (if b then peers else []) + 0 ≤ 1024
+    go true e = let h = leb-true (length peers) 1024 e in omega arith
+    go false e = omega arith
+
+output_few : (s : Scripted) (to : ℕ) (origin : Origin) (words : List ℕ) (what : Sending) → outputs_count (output_by s to origin words what ∷ []) ≤ 1024
+output_few s to origin words sending.Tell = omega arith
+output_few s to origin words sending.Fan = few_length s.peers
+output_few s to origin words (sending.Ask mode tag expected) = omega arith
+output_few s to origin words (sending.Exit why) = omega arith
+output_few s to origin words sending.Link = omega arith
+output_few s to origin words sending.Unlink = omega arith
+output_few s to origin words sending.Watch = omega arith
+output_few s to origin words sending.Unwatch = omega arith
+output_few s to origin words (sending.Deliver requester number) = omega arith
+output_few s to origin words (sending.Break requester number why) = omega arith
+
+outputs_few : (s : Scripted) (to : ℕ) (origin : Origin) (words : List ℕ) (what : Option Sending) → outputs_count (outputs_by s to origin words what) ≤ 1024
+outputs_few s to origin words None = omega arith
+outputs_few s to origin words (Some what) = output_few s to origin words what
+
+pub sends_few : SendsFew AnyValue scripted_rules
+sends_few s Start valid given = omega arith
+sends_few s Stop valid given = omega arith
+sends_few s (Content origin words) valid given = outputs_few s (first_peer s.place s.peers) origin words (act_now s).sending
+sends_few s (Response tag words) valid given = omega arith
+sends_few s (Failed tag why) valid given = omega arith
+sends_few s (Down place why) valid given = omega arith
+
+pub stops_with_exits : StopsWithExits AnyValue scripted_rules
+stops_with_exits s valid = tt

@@ -1,0 +1,76 @@
+ghost use Rattle.std.specs.Prelude.{◌≡◌};
+ghost use Rattle.caf_scripted.specs.Script.{only};
+
+use caf_response::Mode;
+use caf_types::{Reason, Sec, TypeId};
+
+/// What a scripted behaviour does at one content.
+#[derive(Clone, Copy, Debug, PartialEq, Eq, Drop)]
+pub struct Act {
+    pub sending: Option<Sending>,
+    pub reply: Reply,
+    /// Whether it sleeps from now on; None leaves that as it is.
+    pub sleeps: Option<bool>,
+    /// The reason to quit, if it quits.
+    pub quit: Option<Reason>,
+}
+
+/// What it sends. Where no place is named, it is the first peer, or its own place without one.
+#[derive(Clone, Copy, Debug, PartialEq, Eq, Drop)]
+pub enum Sending {
+    /// The content.
+    Tell,
+    /// The content to all peers, where these are at most 1,024.
+    Fan,
+    /// The content as a request: how it waits, its tag, and the one type that is expected.
+    Ask(Mode, u32, TypeId),
+    Exit(Reason),
+    Link,
+    Unlink,
+    Watch,
+    Unwatch,
+    /// The content to the held request of that requester and number.
+    Deliver(u32, u64),
+    /// The error to the held request of that requester and number.
+    Break(u32, u64, Sec),
+}
+
+/// How it answers.
+#[derive(Clone, Copy, Debug, PartialEq, Eq, Drop)]
+pub enum Reply {
+    /// With the content itself, where its interface declares its types as the result, and else with
+    /// the error `Failed`.
+    Echo,
+    /// With the error `Failed`.
+    Fail,
+    /// Not at all where the content is no request, and else with the error `Failed`.
+    Ignore,
+    /// The first peer is to answer.
+    Delegate,
+    /// Later.
+    Hold,
+}
+
+/// What a scripted behaviour remembers of an input that is no content.
+#[derive(Clone, Copy, Debug, PartialEq, Eq, Drop)]
+pub enum Note {
+    Started,
+    Stopped,
+    Responded(u32),
+    Failed(u32, Sec),
+    Down(u32, Reason),
+}
+
+impl Act {
+    /// Answers so, and does nothing else.
+    pub const fn only(reply: Reply) -> Act
+        ensures { result ≡ only reply }
+    {
+        Act {
+            sending: None,
+            reply,
+            sleeps: None,
+            quit: None,
+        }
+    }
+}

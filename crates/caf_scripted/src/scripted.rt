@@ -1,0 +1,259 @@
+ghost use Rattle.std.specs.Prelude.{◌≡◌, IfOk, OnOk, map, bytes_eq};
+ghost use Rattle.std.specs.FinMap as finite;
+ghost use Rattle.caf_words.specs.Several.{ids_of};
+ghost use Rattle.caf_actor.specs.PlainForms.{plain_answer, plain_output, plain_reaction};
+ghost use Rattle.caf_scripted.specs.Laws.{AnyValue};
+ghost use Rattle.caf_scripted.specs.Laws as laws;
+ghost use Rattle.caf_scripted.specs.Scripted.{scripted_rules, act_now, first_peer, takes_first, few, answer_by, output_by, outputs_by, echo, reaction_to, no_reaction, acted, noted};
+
+use crate::{Act, Note, Reply, Sending};
+use caf_actor::{Answer, Behavior, Input, Origin, Output, Reaction, signature_of};
+use caf_message::{Entries, Message};
+use caf_signature::Interface;
+use caf_types::{Memory, Places, Sec, Seq, TypeId, TypeIds, TypeTable};
+use std::alloc::Global;
+
+/// A behaviour that does the acts of a script, one for each content, in order. After the last one it
+/// echoes.
+///
+/// While it sleeps it keeps the first input of its interface for later.
+#[derive(Debug, Drop)]
+pub struct Scripted {
+    pub place: u32,
+    pub peers: Places,
+    pub interface: Interface,
+    pub acts: Seq<Act>,
+    /// How many contents it was given.
+    pub done: u64,
+    pub is_asleep: bool,
+    /// What it was given besides content.
+    pub notes: Seq<Note>,
+}
+
+impl Entries for Scripted {
+    ghost entries = { finite.empty };
+}
+
+impl Behavior for Scripted {
+    ghost rules = { scripted_rules };
+
+    ghost is_valid = { AnyValue };
+
+    fn interface(&self) -> &Interface {
+        &self.interface
+    }
+
+    fn skips(&self, types: &TypeIds) -> bool {
+        self.is_asleep && takes_first_input(&self.interface, types.as_slice())
+    }
+
+    fn react(
+        &mut self,
+        alloc: Global,
+        _table: &TypeTable,
+        input: Input,
+    ) -> Result<Reaction, Memory> {
+        match input {
+            Input::Content(origin, message) => self.act(alloc, origin, message),
+            Input::Start => self.note(alloc, Note::Started),
+            Input::Stop => self.note(alloc, Note::Stopped),
+            Input::Response(tag, _) => self.note(alloc, Note::Responded(tag)),
+            Input::Failed(tag, sec) => self.note(alloc, Note::Failed(tag, sec)),
+            Input::Down(place, reason) => self.note(alloc, Note::Down(place, reason)),
+        }
+    }
+
+    ghost stays_valid = { laws.stays_valid };
+
+    ghost stays_same_actor = { laws.stays_same_actor };
+
+    ghost skips_inputs = { laws.skips_inputs };
+
+    ghost fits_its_table = { laws.fits_its_table finite.empty };
+
+    ghost fits_its_entries = { laws.fits_its_entries finite.empty };
+
+    ghost answers_requests = { laws.answers_requests };
+
+    ghost answers_as_declared = { laws.answers_as_declared };
+
+    ghost sends_to_peers = { laws.sends_to_peers };
+
+    ghost sends_few = { laws.sends_few };
+
+    ghost stops_with_exits = { laws.stops_with_exits };
+}
+
+/// Whether these are the types of the interface's first input.
+fn takes_first_input(interface: &Interface, types: &[TypeId]) -> bool
+    ensures { result ≡ takes_first interface.now (ids_of types.now) }
+{
+    match interface.signatures().as_slice() {
+        [first, ..] => have_same_ids(first.input.as_slice(), types),
+        [] => false,
+    }
+}
+
+fn have_same_ids(left: &[TypeId], right: &[TypeId]) -> bool
+    ensures { result ≡ bytes_eq (ids_of left.now) (ids_of right.now) }
+{
+    left == right
+}
+
+impl Scripted {
+    /// Does the next act.
+    fn act(&mut self, alloc: Global, origin: Origin, message: Message) -> Result<Reaction, Memory>
+        ensures next { OnOk result (self.new ≡ acted self.old (act_now self.old)) }
+        ensures reaction { IfOk result (λ reaction. plain_reaction reaction ≡ reaction_to self.old (first_peer self.old.place self.old.peers) origin message.content (act_now self.old)) }
+    {
+        let act = self.act_now();
+        let to = self.first_peer();
+        let mut message = message;
+        let outputs = self.outputs_by(alloc, to, &origin, act.sending, &mut message)?;
+        let answer = self.answer_by(to, &origin, act.reply, message);
+        self.is_asleep = act.sleeps.unwrap_or(self.is_asleep);
+        self.done = self.done.saturating_add(1);
+        Ok(Reaction {
+            outputs,
+            answer,
+            quit: act.quit,
+        })
+    }
+
+    fn act_now(&self) -> Act
+        ensures { result ≡ act_now self.now }
+    {
+        match self.acts.get(self.done) {
+            Some(act) => *act,
+            None => Act::only(Reply::Echo),
+        }
+    }
+
+    /// Its first peer, or its own place.
+    fn first_peer(&self) -> u32
+        ensures { result ≡ first_peer self.now.place self.now.peers }
+    {
+        match self.peers.as_slice() {
+            [first, ..] => *first,
+            [] => self.place,
+        }
+    }
+
+    fn outputs_by(
+        &self,
+        alloc: Global,
+        to: u32,
+        origin: &Origin,
+        sending: Option<Sending>,
+        message: &mut Message,
+    ) -> Result<Seq<Output>, Memory>
+        ensures outputs { IfOk result (λ outputs. map plain_output outputs ≡ outputs_by self.now to origin.now message.old.content sending) }
+        ensures kept { message.new.content ≡ message.old.content }
+    {
+        let mut outputs = Seq::new(alloc);
+        match sending {
+            None => Ok(outputs),
+            Some(sending) => {
+                let output = self.output_by(alloc, to, origin, sending, message)?;
+                outputs.push(output)?;
+                Ok(outputs)
+            }
+        }
+    }
+
+    fn output_by(
+        &self,
+        alloc: Global,
+        to: u32,
+        origin: &Origin,
+        sending: Sending,
+        message: &mut Message,
+    ) -> Result<Output, Memory>
+        ensures output { IfOk result (λ output. plain_output output ≡ output_by self.now to origin.now message.old.content sending) }
+        ensures kept { message.new.content ≡ message.old.content }
+    {
+        let priority = origin.priority;
+        match sending {
+            Sending::Tell => {
+                let copy = message.copy(alloc)?;
+                Ok(Output::Tell(to, priority, copy))
+            }
+            Sending::Fan => {
+                let copy = message.copy(alloc)?;
+                let places = few_places(alloc, &self.peers)?;
+                Ok(Output::TellMany(places, priority, copy))
+            }
+            Sending::Ask(mode, tag, expected) => {
+                let copy = message.copy(alloc)?;
+                let mut types = TypeIds::new(alloc);
+                types.push(expected)?;
+                Ok(Output::Request(to, priority, mode, tag, types, copy))
+            }
+            Sending::Exit(reason) => Ok(Output::Exit(to, reason)),
+            Sending::Link => Ok(Output::Link(to)),
+            Sending::Unlink => Ok(Output::Unlink(to)),
+            Sending::Watch => Ok(Output::Watch(to)),
+            Sending::Unwatch => Ok(Output::Unwatch(to)),
+            Sending::Deliver(requester, number) => {
+                let copy = message.copy(alloc)?;
+                Ok(Output::Deliver(requester, number, copy))
+            }
+            Sending::Break(requester, number, sec) => Ok(Output::Break(requester, number, sec)),
+        }
+    }
+
+    fn answer_by(&self, to: u32, origin: &Origin, reply: Reply, message: Message) -> Answer
+        ensures { plain_answer result ≡ answer_by self.now to origin.now message.content reply }
+    {
+        match reply {
+            Reply::Echo => self.echo(message),
+            Reply::Fail => Answer::Error(Sec::Failed),
+            Reply::Ignore => {
+                if origin.mid.number > 0 {
+                    return Answer::Error(Sec::Failed);
+                }
+                Answer::Nothing
+            }
+            Reply::Delegate => Answer::Delegate(to),
+            Reply::Hold => Answer::Hold,
+        }
+    }
+
+    fn echo(&self, message: Message) -> Answer
+        ensures { plain_answer result ≡ echo self.now.interface message.content }
+    {
+        let mut message = message;
+        match signature_of(&self.interface, &mut message) {
+            Some(signature) => {
+                if have_same_ids(signature.result.as_slice(), signature.input.as_slice()) {
+                    return Answer::Value(message);
+                }
+                Answer::Error(Sec::Failed)
+            }
+            None => Answer::Error(Sec::Failed),
+        }
+    }
+
+    fn note(&mut self, alloc: Global, note: Note) -> Result<Reaction, Memory>
+        ensures next { OnOk result (self.new ≡ noted self.old note) }
+        ensures reaction { IfOk result (λ reaction. plain_reaction reaction ≡ no_reaction) }
+    {
+        self.notes.push(note)?;
+        Ok(Reaction {
+            outputs: Seq::new(alloc),
+            answer: Answer::Nothing,
+            quit: None,
+        })
+    }
+}
+
+/// The places, where these are at most 1,024, and else none.
+fn few_places(alloc: Global, places: &Places) -> Result<Places, Memory>
+    ensures { IfOk result (λ few'. few' ≡ few places.now) }
+{
+    if places.len() > 1024 {
+        return Ok(Places::new(alloc));
+    }
+    let few = Vec::from_slice(alloc, places.as_slice())?;
+    Ok(Places::of_vec(few))
+}
