@@ -46,8 +46,12 @@ impl<B: Behavior> Snapshot<B> {
         ensures { OnOk result (handling.give B.rules (self.old, posts.old) (plain_input input) ≡ (self.new, posts.new)) }
     {
         let reaction = self.behavior.react(alloc, table, input)?;
-        let Reaction { outputs, quit, .. } = reaction;
-        self.send_outputs(alloc, posts, outputs)?;
+        let Reaction {
+            outputs: sent,
+            quit,
+            ..
+        } = reaction;
+        self.send_outputs(alloc, posts, sent)?;
         self.quit_where(alloc, posts, quit)
     }
 

@@ -1,5 +1,5 @@
 -- The laws of behaviours, for scripted ones.
-use Rattle.std.specs.Prelude.{◌≡◌, ◌≢◌, ℕ, ◌+◌, ◌<◌, ◌≤◌, nat_le, bytes_eq, if◌then◌else◌, Bool, true, false, List, [], ◌∷◌, length, Option, Some, None, refl, find, Contains, IsTrue}
+use Rattle.std.specs.Prelude.{◌≡◌, ◌≢◌, ℕ, ◌+◌, ◌<◌, ◌≤◌, nat_le, bytes_eq, if◌then◌else◌, Bool, true, false, List, [], ◌∷◌, ◌++◌, length, Option, Some, None, refl, find, Contains, IsTrue}
 use Rattle.std.proofs.Common.{suc, ap, sym, ◌∙◌, arith}
 use Rattle.std.proofs.lemmas.Bool.{lt-ltb, leb-true}
 use Rattle.std.proofs.lemmas.Slice.Eq.{bytes_eq-Decides}
@@ -16,6 +16,7 @@ use Rattle.caf_signature.specs.declared.interface.Signature.{Signature}
 use Rattle.caf_actor.specs.declared.input.Origin.{Origin}
 use Rattle.caf_actor.specs.Answering.{is_asked}
 use Rattle.caf_actor.specs.PlainInput.{PlainInput, Start, Stop, Content, Response, Failed, Down}
+use Rattle.caf_actor.specs.PlainOutput.{PlainOutput}
 use Rattle.caf_actor.specs.PlainReaction.{PlainAnswer, PlainReaction}
 use Rattle.caf_actor.specs.PlainReaction as answer
 use Rattle.caf_actor.specs.Rules.{Rules, MayBeGiven, InputFits, OutputFits, AnswerFits, ReactionFits, HasTargets, IsTarget, IsSameActor, signature_for, declared_for, takes_ids, is_input, output_targets, answer_targets, outputs_count, StaysValid, StaysSameActor, SkipsInputs, FitsItsTable, FitsItsEntries, AnswersRequests, AnswersAsDeclared, SendsToPeers, SendsFew, StopsWithExits}
@@ -95,8 +96,12 @@ outputs_fit : (shape_of : ℕ → Option Form) (s : Scripted) (to : ℕ) (origin
 outputs_fit shape_of s to origin words None h = tt
 outputs_fit shape_of s to origin words (Some what) h = (output_fits shape_of s to origin words what h, tt)
 
+both_fit : (shape_of : ℕ → Option Form) (xs ys : List PlainOutput) → AllByRecursion (OutputFits shape_of) xs → AllByRecursion (OutputFits shape_of) ys → AllByRecursion (OutputFits shape_of) (xs ++ ys)
+both_fit shape_of [] ys h k = k
+both_fit shape_of (x ∷ xs) ys h k = (h.0, both_fit shape_of xs ys h.1 k)
+
 reaction_fits : (shape_of : ℕ → Option Form) (s : Scripted) (to : ℕ) (origin : Origin) (words : List ℕ) (a : Act) → Fits shape_of words → ReactionFits shape_of (reaction_to s to origin words a)
-reaction_fits shape_of s to origin words a h = record { outputs = outputs_fit shape_of s to origin words a.sending h; answer = answer_fits shape_of s to origin words a.reply h }
+reaction_fits shape_of s to origin words a h = record { outputs = both_fit shape_of (outputs_by s to origin words a.sending) (outputs_by s to origin words a.afterwards) (outputs_fit shape_of s to origin words a.sending h) (outputs_fit shape_of s to origin words a.afterwards h); answer = answer_fits shape_of s to origin words a.reply h }
 
 all_fit : (shape_of : ℕ → Option Form) (s : Scripted) (i : PlainInput) → InputFits shape_of i → ReactionFits shape_of (reaction s i)
 all_fit shape_of s Start h = record { outputs = tt; answer = tt }
@@ -184,7 +189,7 @@ peers_are_targets all (p ∷ ps) place within =
     (behind all p place (within p (0, omega arith, refl)), peers_are_targets all ps place (λ q h. within q (behind ps q p h)))
 
 few_are_targets : (s : Scripted) → AllByRecursion (IsTarget scripted_rules s) (few s.peers)
-few_are_targets s = go (nat_le (length s.peers) 1024)
+few_are_targets s = go (nat_le (length s.peers) 512)
   where
     go : (b : Bool) → AllByRecursion (IsTarget scripted_rules s) (if b then s.peers else [])
     go true = peers_are_targets s.peers s.peers s.place (λ p h. h)
@@ -228,27 +233,31 @@ answer_targets_are s to origin words reply.Ignore h = ignore_has_none s origin
 answer_targets_are s to origin words reply.Delegate h = (h, tt)
 answer_targets_are s to origin words reply.Hold h = tt
 
+both_are : (s : Scripted) (xs ys : List PlainOutput) → AllByRecursion (λ o. AllByRecursion (IsTarget scripted_rules s) (output_targets o)) xs → AllByRecursion (λ o. AllByRecursion (IsTarget scripted_rules s) (output_targets o)) ys → AllByRecursion (λ o. AllByRecursion (IsTarget scripted_rules s) (output_targets o)) (xs ++ ys)
+both_are s [] ys h k = k
+both_are s (x ∷ xs) ys h k = (h.0, both_are s xs ys h.1 k)
+
 pub sends_to_peers : SendsToPeers AnyValue scripted_rules
 sends_to_peers s Start valid given = record { outputs = tt; answer = tt }
 sends_to_peers s Stop valid given = record { outputs = tt; answer = tt }
 sends_to_peers s (Content origin words) valid given =
     let to = first_peer s.place s.peers in
     let h = first_is_target s.place s.peers in
-    record { outputs = outputs_targets_are s to origin words (act_now s).sending h; answer = answer_targets_are s to origin words (act_now s).reply h }
+    record { outputs = both_are s (outputs_by s to origin words (act_now s).sending) (outputs_by s to origin words (act_now s).afterwards) (outputs_targets_are s to origin words (act_now s).sending h) (outputs_targets_are s to origin words (act_now s).afterwards h); answer = answer_targets_are s to origin words (act_now s).reply h }
 sends_to_peers s (Response tag words) valid given = record { outputs = tt; answer = tt }
 sends_to_peers s (Failed tag why) valid given = record { outputs = tt; answer = tt }
 sends_to_peers s (Down place why) valid given = record { outputs = tt; answer = tt }
 
 -- ---- how many
 
-few_length : (peers : List ℕ) → length (few peers) + 0 ≤ 1024
-few_length peers = go (nat_le (length peers) 1024) refl
+few_length : (peers : List ℕ) → length (few peers) + 0 ≤ 512
+few_length peers = go (nat_le (length peers) 512) refl
   where
-    go : (b : Bool) → nat_le (length peers) 1024 ≡ b → length (if b then peers else []) + 0 ≤ 1024
-    go true e = let h = leb-true (length peers) 1024 e in omega arith
+    go : (b : Bool) → nat_le (length peers) 512 ≡ b → length (if b then peers else []) + 0 ≤ 512
+    go true e = let h = leb-true (length peers) 512 e in omega arith
     go false e = omega arith
 
-output_few : (s : Scripted) (to : ℕ) (origin : Origin) (words : List ℕ) (what : Sending) → outputs_count (output_by s to origin words what ∷ []) ≤ 1024
+output_few : (s : Scripted) (to : ℕ) (origin : Origin) (words : List ℕ) (what : Sending) → outputs_count (output_by s to origin words what ∷ []) ≤ 512
 output_few s to origin words sending.Tell = omega arith
 output_few s to origin words sending.Fan = few_length s.peers
 output_few s to origin words (sending.Ask mode tag expected) = omega arith
@@ -260,14 +269,23 @@ output_few s to origin words sending.Unwatch = omega arith
 output_few s to origin words (sending.Deliver requester number) = omega arith
 output_few s to origin words (sending.Break requester number why) = omega arith
 
-outputs_few : (s : Scripted) (to : ℕ) (origin : Origin) (words : List ℕ) (what : Option Sending) → outputs_count (outputs_by s to origin words what) ≤ 1024
+outputs_few : (s : Scripted) (to : ℕ) (origin : Origin) (words : List ℕ) (what : Option Sending) → outputs_count (outputs_by s to origin words what) ≤ 512
 outputs_few s to origin words None = omega arith
 outputs_few s to origin words (Some what) = output_few s to origin words what
+
+both_count : (xs ys : List PlainOutput) → outputs_count (xs ++ ys) ≡ outputs_count xs + outputs_count ys
+both_count [] ys = omega arith
+both_count (x ∷ xs) ys = let later = both_count xs ys in omega arith
 
 pub sends_few : SendsFew AnyValue scripted_rules
 sends_few s Start valid given = omega arith
 sends_few s Stop valid given = omega arith
-sends_few s (Content origin words) valid given = outputs_few s (first_peer s.place s.peers) origin words (act_now s).sending
+sends_few s (Content origin words) valid given =
+    let to = first_peer s.place s.peers in
+    let first = outputs_few s to origin words (act_now s).sending in
+    let second = outputs_few s to origin words (act_now s).afterwards in
+    let sum = both_count (outputs_by s to origin words (act_now s).sending) (outputs_by s to origin words (act_now s).afterwards) in
+    omega arith
 sends_few s (Response tag words) valid given = omega arith
 sends_few s (Failed tag why) valid given = omega arith
 sends_few s (Down place why) valid given = omega arith

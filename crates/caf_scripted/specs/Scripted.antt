@@ -63,7 +63,7 @@ answer_by s to origin words reply.Hold = answer.Hold
 
 -- all peers, where these are few enough
 abbrev pub few : List ℕ → List ℕ
-few peers = if nat_le (length peers) 1024 then peers else []
+few peers = if nat_le (length peers) 512 then peers else []
 
 abbrev pub output_by : Scripted → ℕ → Origin → List ℕ → Sending → PlainOutput
 output_by s to origin words sending.Tell = output.Tell to origin.priority words
@@ -84,7 +84,7 @@ outputs_by s to origin words (Some what) = output_by s to origin words what ∷ 
 -- ---- reactions
 
 abbrev pub reaction_to : Scripted → ℕ → Origin → List ℕ → Act → PlainReaction
-reaction_to s to origin words a = record { outputs = outputs_by s to origin words a.sending; answer = answer_by s to origin words a.reply; quit = a.quit }
+reaction_to s to origin words a = record { outputs = outputs_by s to origin words a.sending ++ outputs_by s to origin words a.afterwards; answer = answer_by s to origin words a.reply; quit = a.quit }
 
 abbrev pub no_reaction : PlainReaction
 no_reaction = record { outputs = []; answer = answer.Nothing; quit = None }

@@ -8,6 +8,7 @@ use caf_types::{Reason, Sec, TypeId};
 #[derive(Clone, Copy, Debug, PartialEq, Eq, Drop)]
 pub struct Act {
     pub sending: Option<Sending>,
+    pub afterwards: Option<Sending>,
     pub reply: Reply,
     /// Whether it sleeps from now on; None leaves that as it is.
     pub sleeps: Option<bool>,
@@ -20,7 +21,7 @@ pub struct Act {
 pub enum Sending {
     /// The content.
     Tell,
-    /// The content to all peers, where these are at most 1,024.
+    /// The content to all peers, where these are at most 512.
     Fan,
     /// The content as a request: how it waits, its tag, and the one type that is expected.
     Ask(Mode, u32, TypeId),
@@ -68,6 +69,7 @@ impl Act {
     {
         Act {
             sending: None,
+            afterwards: None,
             reply,
             sleeps: None,
             quit: None,

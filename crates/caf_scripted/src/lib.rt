@@ -12,3 +12,10 @@ mod scripted;
 
 pub use act::{Act, Note, Reply, Sending};
 pub use scripted::Scripted;
+
+#[cfg(test)]
+mod rows;
+#[cfg(test)]
+mod stage;
+#[cfg(test)]
+mod tests;

@@ -1,4 +1,4 @@
-ghost use Rattle.std.specs.Prelude.{◌≡◌, IfOk, OnOk, map, bytes_eq};
+ghost use Rattle.std.specs.Prelude.{◌≡◌, ◌++◌, IfOk, OnOk, map, bytes_eq};
 ghost use Rattle.std.specs.FinMap as finite;
 ghost use Rattle.caf_words.specs.Several.{ids_of};
 ghost use Rattle.caf_actor.specs.PlainForms.{plain_answer, plain_output, plain_reaction};
@@ -109,7 +109,16 @@ impl Scripted {
         let act = self.act_now();
         let to = self.first_peer();
         let mut message = message;
-        let outputs = self.outputs_by(alloc, to, &origin, act.sending, &mut message)?;
+        let mut outputs = Seq::new(alloc);
+        self.send(alloc, &mut outputs, to, &origin, act.sending, &mut message)?;
+        self.send(
+            alloc,
+            &mut outputs,
+            to,
+            &origin,
+            act.afterwards,
+            &mut message,
+        )?;
         let answer = self.answer_by(to, &origin, act.reply, message);
         self.is_asleep = act.sleeps.unwrap_or(self.is_asleep);
         self.done = self.done.saturating_add(1);
@@ -139,24 +148,23 @@ impl Scripted {
         }
     }
 
-    fn outputs_by(
+    fn send(
         &self,
         alloc: Global,
+        outputs: &mut Seq<Output>,
         to: u32,
         origin: &Origin,
         sending: Option<Sending>,
         message: &mut Message,
-    ) -> Result<Seq<Output>, Memory>
-        ensures outputs { IfOk result (λ outputs. map plain_output outputs ≡ outputs_by self.now to origin.now message.old.content sending) }
+    ) -> Result<(), Memory>
+        ensures outputs { OnOk result (map plain_output outputs.new ≡ map plain_output outputs.old ++ outputs_by self.now to origin.now message.old.content sending) }
         ensures kept { message.new.content ≡ message.old.content }
     {
-        let mut outputs = Seq::new(alloc);
         match sending {
-            None => Ok(outputs),
+            None => Ok(()),
             Some(sending) => {
                 let output = self.output_by(alloc, to, origin, sending, message)?;
-                outputs.push(output)?;
-                Ok(outputs)
+                outputs.push(output)
             }
         }
     }
@@ -247,11 +255,11 @@ impl Scripted {
     }
 }
 
-/// The places, where these are at most 1,024, and else none.
+/// The places, where these are at most 512, and else none.
 fn few_places(alloc: Global, places: &Places) -> Result<Places, Memory>
     ensures { IfOk result (λ few'. few' ≡ few places.now) }
 {
-    if places.len() > 1024 {
+    if places.len() > 512 {
         return Ok(Places::new(alloc));
     }
     let few = Vec::from_slice(alloc, places.as_slice())?;
