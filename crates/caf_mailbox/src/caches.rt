@@ -13,6 +13,10 @@ use std::collections::VecDeque;
 use std::marker::Model;
 
 /// The envelopes that an actor has taken and not yet handled: the urgent and the normal list.
+///
+/// As in CAF (the CAF manual), messages of high priority are handled before others, and a message
+/// that is skipped stays in its place until it may be handled. Each list is a queue, so the first
+/// envelope leaves in constant time; each one that is passed over costs one test.
 #[derive(Debug, Drop)]
 pub struct Caches {
     urgent: VecDeque<Envelope>,
@@ -33,7 +37,7 @@ impl Model for Caches {
 }
 
 impl Caches {
-    /// Two empty lists.
+    /// Two empty lists. They take no memory until the first `add`.
     pub fn new(alloc: Global) -> Caches
         ensures { result ≡ nothing_cached }
     {
