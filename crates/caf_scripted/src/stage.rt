@@ -174,7 +174,7 @@ fn content_of(alloc: Global, message: Message) -> Result<What, Memory> {
     let words = message.words(alloc)?;
     Ok(match words.as_slice() {
         [1, 2, number] => What::Number(*number),
-        [1, 0] => What::Nothing,
+        [1, 0, 0] => What::Nothing,
         _ => What::Other,
     })
 }
