@@ -12,3 +12,4 @@ pub mod JsonReading
 pub mod JsonStack
 pub mod JsonSaver
 pub mod Left
+pub mod Fitting

@@ -1,0 +1,5 @@
+pub mod LoopLemmas
+pub mod Stops
+pub mod Numbers
+pub mod Lists
+pub mod Readers
