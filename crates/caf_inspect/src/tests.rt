@@ -1,9 +1,11 @@
-ghost use Rattle.std.specs.Prelude.{◌≡◌, [], ◌∷◌, codes, cond, map, nat_lt, true, false, Some, IfOk, refl};
+ghost use Rattle.std.specs.Prelude.{◌≡◌, [], ◌∷◌, codes, cond, map, nat_lt, true, false, Some, IfOk, OnOk, refl};
 ghost use Rattle.caf_types.specs.Form.{unit, flag, unsigned, signed, text, bytes, place, list, object, no_parts, part};
 ghost use Rattle.caf_types.specs.Table.{shape_at, with_block, built_in, named};
 ghost use Rattle.caf_types.specs.TypeTable.{seen};
 ghost use Rattle.caf_words.specs.Datum.{a_unit, a_flag, an_unsigned, a_signed, a_text, some_bytes, a_place, a_list, an_object, more, no_data, data_of};
+ghost use Rattle.caf_inspect.specs.Event as events;
 ghost use Rattle.caf_inspect.specs.Fitting.{both_hold, all_hold};
+ghost use Rattle.caf_inspect.specs.Tells.{Tells};
 
 use crate::{
     Inspect, JsonLoader, Load, LoadFault, Save, WordLoader, from_json, from_words, load_list,
@@ -269,6 +271,46 @@ fn home(is_far: bool) -> u32
     if is_far { 255 } else { 7 }
 }
 
+fn tell_change<S: Save>(sample: &Sample, saver: &mut S) -> Result<(), Memory>
+    ensures { OnOk result (Tells S.told saver.old saver.new (events.signed sample.now.change ∷ [])) }
+{
+    saver.signed(sample.change)
+}
+
+/// Tells the first fields of a sample.
+fn tell_numbers<S: Save>(sample: &Sample, saver: &mut S) -> Result<(), Memory>
+    ensures { OnOk result (Tells S.told saver.old saver.new (events.object 8 ∷ events.field (codes "nothing") ∷ events.unit ∷ events.field (codes "done") ∷ events.flag sample.now.done ∷ events.field (codes "count") ∷ events.unsigned sample.now.count ∷ events.field (codes "change") ∷ events.signed sample.now.change ∷ [])) }
+{
+    saver.object(8)?;
+    saver.field("nothing")?;
+    saver.unit()?;
+    saver.field("done")?;
+    saver.flag(sample.done)?;
+    saver.field("count")?;
+    saver.unsigned(sample.count)?;
+    saver.field("change")?;
+    tell_change(sample, saver)?;
+    Ok(())
+}
+
+/// Tells the next fields of a sample.
+fn tell_texts<S: Save>(
+    name: &str,
+    mark: &[u8],
+    home: u32,
+    saver: &mut S,
+) -> Result<(), Memory>
+    ensures { OnOk result (Tells S.told saver.old saver.new (events.field (codes "name") ∷ events.text name.now ∷ events.field (codes "mark") ∷ events.bytes mark.now ∷ events.field (codes "home") ∷ events.place home ∷ [])) }
+{
+    saver.field("name")?;
+    saver.text(name)?;
+    saver.field("mark")?;
+    saver.bytes(mark)?;
+    saver.field("home")?;
+    saver.place(home)?;
+    Ok(())
+}
+
 impl Inspect for Sample {
     ghost use Rattle.caf_inspect.specs.declared.tests.Line.{Line};
 
@@ -283,21 +325,8 @@ impl Inspect for Sample {
     }
 
     fn save<S: Save>(&self, saver: &mut S) -> Result<(), Memory> {
-        saver.object(8)?;
-        saver.field("nothing")?;
-        saver.unit()?;
-        saver.field("done")?;
-        saver.flag(self.done)?;
-        saver.field("count")?;
-        saver.unsigned(self.count)?;
-        saver.field("change")?;
-        saver.signed(self.change)?;
-        saver.field("name")?;
-        saver.text(self.name.as_str())?;
-        saver.field("mark")?;
-        saver.bytes(self.mark.as_slice())?;
-        saver.field("home")?;
-        saver.place(home(self.is_far))?;
+        tell_numbers(self, saver)?;
+        tell_texts(self.name.as_str(), self.mark.as_slice(), home(self.is_far), saver)?;
         saver.field("lines")?;
         save_list(&self.lines, saver)?;
         Ok(())

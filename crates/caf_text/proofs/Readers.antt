@@ -5,9 +5,12 @@ use Rattle.std.specs.Int.RustNames.{FitsSigned}
 use Rattle.caf_types.specs.Form.{Form, unit, flag, unsigned, signed, text, bytes, place, list, object, Parts, no_parts, part}
 use Rattle.caf_words.specs.Datum.{Datum, a_unit, a_flag, an_unsigned, a_signed, a_text, some_bytes, a_place, a_list, an_object, Data, no_data, more}
 use Rattle.caf_words.specs.Reading.{Got, ◌>>=◌, then_more}
-use Rattle.caf_text.specs.TextForm.{comma, colon, text_form, scalar_text, fields_text, IsValue, AreValues, AllAre}
-use Rattle.caf_text.specs.TextReading.{literal, word, choice, number, nonzero, reading, field_at, fields_at}
+use Rattle.caf_text.specs.TextForm.{comma, colon, joined, text_form, scalar_text, fields_text, IsValue, AreValues, AllAre}
+use Rattle.caf_text.specs.TextReading.{literal, word, choice, number, nonzero, values_or_none, reading, field_at, fields_at}
 use Rattle.caf_text.proofs.Stops.{ends, Good, StopsAt, Stops, pure_stops, literal_stops, then_stops, make_stops, choice_stops, as_stops, literal_then}
+use Rattle.std.proofs.lemmas.Str.{IsUtf8-nil}
+use Rattle.caf_text.proofs.Lists.{items_stops}
+use Rattle.caf_text.proofs.QuotedLemmas.{text_stops, bytes_stops}
 use Rattle.caf_text.proofs.Numbers.{IsNonzero, nonzero_stops, number_stops}
 
 -- ---- numbers
@@ -57,3 +60,85 @@ flag_stops =
     (λ e. codes "rue") (λ e. codes "false") (text_form flag)
     (word_stops (codes "rue") (a_flag true)) (word_stops (codes "false") (a_flag false))
     (λ d e. ((true, e), ap scalar_text e)) (λ d e. ((false, e), ap scalar_text e)) (a_flag true, (true, refl))
+
+-- ---- lists
+
+-- the text of a list begins with its opening bracket
+list_stops : (f : Form) → ((cs : List ℕ) → Stops (IsValue f) (text_form f) (reading f) cs) → (d : Datum) × IsValue f d → (cs : List ℕ) → Stops (IsValue (list f)) (text_form (list f)) (reading (list f)) cs
+list_stops f ones some cs = as_stops (IsValue (list f)) (λ d. (91 ∷ []) ++ drop 1 (text_form (list f) d)) (IsValue (list f)) (text_form (list f))
+    (λ d h. (h, subst (λ e. text_form (list f) e ≡ (91 ∷ []) ++ drop 1 (text_form (list f) e)) (sym h.2) refl))
+    (reading (list f)) cs
+    (literal_then (91 ∷ []) (λ ys. values_or_none (reading f) ys >>= λ y. Ok (a_list y.0, y.1)) (IsValue (list f)) (λ d. drop 1 (text_form (list f) d)) (a_list no_data, (no_data, tt, refl))
+    (λ ys. make_stops (AllAre (IsValue f)) (λ ds. joined (text_form f) [] ds ++ 93 ∷ []) (values_or_none (reading f)) a_list (IsValue (list f)) (λ d. drop 1 (text_form (list f) d))
+    (λ ds h. ((ds, h, refl), refl)) ys (items_stops (IsValue f) (text_form f) (reading f) ones some ys)) cs)
+
+-- ---- objects
+
+abbrev others_of : Data → Data
+others_of no_data = no_data
+others_of (more d ds) = ds
+
+field_stops : (before name : List ℕ) (f : Form) → ((cs : List ℕ) → Stops (IsValue f) (text_form f) (reading f) cs) → (d : Datum) × IsValue f d
+    → (cs : List ℕ) → Stops (IsValue f) (λ d. before ++ (name ++ (colon ++ text_form f d))) (field_at before name (reading f)) cs
+field_stops before name f ones some =
+    literal_then before (λ ys. literal name ys >>= λ b. literal colon b.1 >>= λ c. reading f c.1) (IsValue f) (λ d. name ++ (colon ++ text_form f d)) some
+    (literal_then name (λ ys. literal colon ys >>= λ c. reading f c.1) (IsValue f) (λ d. colon ++ text_form f d) some
+    (literal_then colon (reading f) (IsValue f) (text_form f) some ones))
+
+object_stops : (ps : Parts) → ((cs : List ℕ) → Stops (AreValues ps) (fields_text ps []) (fields_at ps []) cs) → (ds : Data) × AreValues ps ds → (cs : List ℕ) → Stops (IsValue (object ps)) (text_form (object ps)) (reading (object ps)) cs
+object_stops ps all some cs = as_stops (IsValue (object ps)) (λ d. (123 ∷ []) ++ drop 1 (text_form (object ps) d)) (IsValue (object ps)) (text_form (object ps))
+    (λ d h. (h, subst (λ e. text_form (object ps) e ≡ (123 ∷ []) ++ drop 1 (text_form (object ps) e)) (sym h.2) refl))
+    (reading (object ps)) cs
+    (literal_then (123 ∷ []) (λ ys. fields_at ps [] ys >>= λ x. literal (125 ∷ []) x.1 >>= λ b. Ok (an_object x.0, b.1)) (IsValue (object ps)) (λ d. drop 1 (text_form (object ps) d)) (an_object some.0, (some.0, some.1, refl))
+    (λ ys. then_stops (AreValues ps) (fields_text ps []) (fields_at ps []) (λ ds zs. literal (125 ∷ []) zs >>= λ b. Ok (an_object ds, b.1)) (λ ds d. d ≡ an_object ds) (λ ds d. 125 ∷ []) (IsValue (object ps)) (λ d. drop 1 (text_form (object ps) d))
+    (λ ds d v e. ((ds, v, e), ap (λ x. drop 1 (text_form (object ps) x)) e))
+    (λ ds v. (an_object ds, refl))
+    ys (all ys) (λ ds e. word_stops (125 ∷ []) (an_object ds) (all ys).2)) cs)
+
+fields_stops : (before name : List ℕ) (f : Form) (ps : Parts) → ((cs : List ℕ) → Stops (IsValue f) (text_form f) (reading f) cs) → (d : Datum) × IsValue f d
+    → ((cs : List ℕ) → Stops (AreValues ps) (fields_text ps comma) (fields_at ps comma) cs) → (ds : Data) × AreValues ps ds
+    → (cs : List ℕ) → Stops (AreValues (part name f ps)) (fields_text (part name f ps) before) (fields_at (part name f ps) before) cs
+fields_stops before name f ps ones some all somes cs =
+    then_stops (IsValue f) (λ d. before ++ (name ++ (colon ++ text_form f d))) (field_at before name (reading f)) (λ d ys. fields_at ps comma ys >>= λ y. Ok (more d y.0, y.1))
+    (λ d ds. (es : Data) × AreValues ps es × (ds ≡ more d es)) (λ d ds. fields_text ps comma (others_of ds)) (AreValues (part name f ps)) (fields_text (part name f ps) before)
+    (λ d ds v w. ((d, w.0, v, w.1, w.2), ap (fields_text (part name f ps) before) w.2 ∙ regroup (text_form f d) (fields_text ps comma w.0) ∙ ap (λ es. (before ++ (name ++ (colon ++ text_form f d))) ++ fields_text ps comma (others_of es)) (sym w.2)))
+    (λ d v. (more d somes.0, (somes.0, somes.1, refl)))
+    cs (field_stops before name f ones some cs)
+    (λ d e. make_stops (AreValues ps) (fields_text ps comma) (fields_at ps comma) (more d) (λ ds. (es : Data) × AreValues ps es × (ds ≡ more d es)) (λ ds. fields_text ps comma (others_of ds)) (λ es h. ((es, h, refl), refl)) _ (all _))
+  where
+    regroup : (xs ys : List ℕ) → before ++ (name ++ (colon ++ (xs ++ ys))) ≡ (before ++ (name ++ (colon ++ xs))) ++ ys
+    regroup xs ys = sym (append_assoc before (name ++ (colon ++ xs)) ys ∙ ap (λ zs. before ++ zs) (append_assoc name (colon ++ xs) ys ∙ ap (λ zs. name ++ zs) (append_assoc colon xs ys)))
+
+-- ---- every shape
+
+mutual
+  pub some_value : (f : Form) → (d : Datum) × IsValue f d
+  some_value unit = (a_unit, refl)
+  some_value flag = (a_flag true, (true, refl))
+  some_value unsigned = (an_unsigned 0, (0, omega arith, refl))
+  some_value signed = (a_signed (pos 0), (pos 0, record { sfits = omega arith }, refl))
+  some_value text = (a_text [], ([], IsUtf8-nil, refl))
+  some_value bytes = (some_bytes [], ([], tt, refl))
+  some_value place = (a_place 0, (0, omega arith, refl))
+  some_value (list f) = (a_list no_data, (no_data, tt, refl))
+  some_value (object ps) = let s = some_values ps in (an_object s.0, (s.0, s.1, refl))
+
+  some_values : (ps : Parts) → (ds : Data) × AreValues ps ds
+  some_values no_parts = (no_data, refl)
+  some_values (part name f ps) = let s = some_value f in let t = some_values ps in (more s.0 t.0, (s.0, t.0, s.1, t.1, refl))
+
+mutual
+  pub reading_stops : (f : Form) (cs : List ℕ) → Stops (IsValue f) (text_form f) (reading f) cs
+  reading_stops unit = unit_stops
+  reading_stops flag = flag_stops
+  reading_stops unsigned = unsigned_stops
+  reading_stops signed = signed_stops
+  reading_stops text = text_stops
+  reading_stops bytes = bytes_stops
+  reading_stops place = place_stops
+  reading_stops (list f) = list_stops f (reading_stops f) (some_value f)
+  reading_stops (object ps) = object_stops ps (all_stops ps []) (some_values ps)
+
+  all_stops : (ps : Parts) (before cs : List ℕ) → Stops (AreValues ps) (fields_text ps before) (fields_at ps before) cs
+  all_stops no_parts before = λ cs. pure_stops (λ ds. ds ≡ no_data) no_data cs refl
+  all_stops (part name f ps) before = fields_stops before name f ps (reading_stops f) (some_value f) (all_stops ps comma) (some_values ps)

@@ -114,12 +114,12 @@ module _ {A B : Type 0} (V : A → Type 0) (T : A → List ℕ) (read : List ℕ
         (w.0, g.1 ++ U g.0 w.0, h.0, sym (append_assoc front g.1 (U g.0 w.0)) ∙ ap (λ xs. xs ++ U g.0 w.0) g.3 ∙ sym h.1);
   }
 
-  pub then_stops : (cs : List ℕ) (p : Stops V T read cs) → ((a : A) → Stops (W a) (U a) (next a) p.2) → Stops V' T' joint cs
+  pub then_stops : (cs : List ℕ) (p : Stops V T read cs) → ((a : A) → read cs ≡ Ok (a, p.2) → Stops (W a) (U a) (next a) p.2) → Stops V' T' joint cs
   then_stops cs p nexts = go p.0 p.3
     where
       go : (o : Option A) → StopsAt V T read cs o p.1 p.2 → Stops V' T' joint cs
       go None q = (None, p.1, p.2, short cs p.1 p.2 q)
-      go (Some a) q = let n = nexts a in (n.0, p.1 ++ n.1, n.2, after cs a p.1 p.2 q n.0 n.1 n.2 n.3)
+      go (Some a) q = let n = nexts a q.is in (n.0, p.1 ++ n.1, n.2, after cs a p.1 p.2 q n.0 n.1 n.2 n.3)
 
 -- ---- what was read, made into something else
 
@@ -239,4 +239,4 @@ module _ {A : Type 0} (V : A → Type 0) (T : A → List ℕ) (V' : A → Type 0
 -- a literal, and then something
 pub literal_then : {A : Type 0} (xs : List ℕ) (one : List ℕ → Got A) (V : A → Type 0) (T : A → List ℕ) → (a : A) × V a → ((cs : List ℕ) → Stops V T one cs) → (cs : List ℕ) → Stops V (λ a. xs ++ T a) (λ ys. literal xs ys >>= λ x. one x.1) cs
 literal_then xs one V T some ones cs =
-    then_stops (λ u. Unit {0}) (λ u. xs) (literal xs) (λ u. one) (λ u. V) (λ u. T) V (λ a. xs ++ T a) (λ u a v w. (w, refl)) (λ u v. some) cs (literal_stops xs cs) (λ u. ones (literal_stops xs cs).2)
+    then_stops (λ u. Unit {0}) (λ u. xs) (literal xs) (λ u. one) (λ u. V) (λ u. T) V (λ a. xs ++ T a) (λ u a v w. (w, refl)) (λ u v. some) cs (literal_stops xs cs) (λ u e. ones (literal_stops xs cs).2)

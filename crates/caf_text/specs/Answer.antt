@@ -1,5 +1,5 @@
 -- What the readers of the code answered is what reading gives.
-use Rattle.std.specs.Prelude.{◌≡◌, ℕ, ◌-◌, List, length, Result, Ok, Err}
+use Rattle.std.specs.Prelude.{◌≡◌, ℕ, List, Result, Ok, Err}
 use Rattle.caf_types.specs.Form.{Form}
 use Rattle.caf_words.specs.Datum.{Datum}
 use Rattle.caf_text.specs.TextForm.{HasText}
@@ -22,8 +22,3 @@ Gives view (Err e) read = Fails e read
 abbrev pub IsNoForm : TextFault → Form → List ℕ → Type 0
 IsNoForm faults.Memory f input = Unit {0}
 IsNoForm (faults.At n) f input = IsLongestFront f input n × ((d : Datum) → HasText f d input → ⊥)
-
--- the reading stopped behind so many bytes
-abbrev pub FailsAt : TextFault → Result Datum ℕ → List ℕ → Type 0
-FailsAt faults.Memory read input = Unit {0}
-FailsAt (faults.At n) read input = (left : ℕ) × (read ≡ Err left) × (n ≡ length input - left)

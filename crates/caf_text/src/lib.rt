@@ -8,6 +8,7 @@
 //! front of some text form of the shape.
 #![tactic(auto)]
 
+mod law;
 mod literal;
 mod number;
 mod quoted;
@@ -16,6 +17,12 @@ mod stop;
 mod whole;
 mod writing;
 
+pub use law::text_is_exact;
 pub use stop::TextFault;
 pub use whole::read_text;
-pub use writing::{add_bytes, add_place, add_plain, add_quoted, add_signed, add_unsigned};
+pub use writing::{
+    add_bytes, add_flag, add_place, add_plain, add_quoted, add_signed, add_unsigned,
+};
+
+#[cfg(test)]
+mod tests;

@@ -1,7 +1,8 @@
-ghost use Rattle.std.specs.Prelude.{◌≡◌, ◌-◌, Ok, IfOk, IfErr};
+ghost use Rattle.std.specs.Prelude.{◌≡◌, ◌-◌, IfOk, IfErr};
 ghost use Rattle.caf_types.specs.Shape.{form};
 ghost use Rattle.caf_words.specs.Value.{datum};
-ghost use Rattle.caf_text.specs.Answer.{Gives, FailsAt};
+ghost use Rattle.caf_text.specs.Answer.{Gives, IsNoForm};
+ghost use Rattle.caf_text.specs.TextForm.{HasText};
 ghost use Rattle.caf_text.specs.TextReading.{untext};
 
 use crate::TextFault;
@@ -16,8 +17,8 @@ use std::alloc::Global;
 /// `At` comes exactly where it is the form of none, with the length in bytes of the longest front of
 /// the text that is the front of some text form of the shape.
 pub fn read_text(alloc: Global, shape: &Shape, text: &str) -> Result<Value, TextFault>
-    ensures found { IfOk result (λ value. untext (form shape.now) text.now ≡ Ok (datum value)) }
-    ensures faulty { IfErr result (λ fault. FailsAt fault (untext (form shape.now) text.now) text.now) }
+    ensures found { IfOk result (λ value. HasText (form shape.now) (datum value) text.now) }
+    ensures faulty { IfErr result (λ fault. IsNoForm fault (form shape.now) text.now) }
 {
     let bytes = text.as_bytes();
     match whole_value(alloc, shape, bytes) {

@@ -1,17 +1,13 @@
-use Rattle.std.proofs.Common.{[], ◌∷◌, subst}
-use Rattle.caf_inspect.specs.Event.{text, bytes, place}
+use Rattle.std.proofs.Common.{[], ◌∷◌, codes, subst}
+use Rattle.caf_inspect.specs.Event.{field, text, bytes, place}
 use Rattle.caf_inspect.specs.Tells.{Tells}
 use Rattle.caf_inspect.proofs.Telling.{tells_cons, tells_append, tells_none}
 use Rattle.caf_inspect.proofs.tests.SampleInspect.save.Goals as goal
 
 pub returns : goal.returns
 returns g c =
-    tells_cons c.in_ok-object.ensures
-    (tells_cons c.in_ok-field.ensures (tells_cons c.in_ok-unit.ensures
-    (tells_cons c.in_ok-field-2.ensures (tells_cons c.in_ok-flag.ensures
-    (tells_cons c.in_ok-field-3.ensures (tells_cons c.in_ok-unsigned.ensures
-    (tells_cons c.in_ok-field-4.ensures (tells_cons c.in_ok-signed.ensures
-    (tells_cons c.in_ok-field-5.ensures (tells_cons (subst (λ v. Tells g.S.Save.told _ _ (text v ∷ [])) c.as_str.ensures c.in_ok-text.ensures)
-    (tells_cons c.in_ok-field-6.ensures (tells_cons (subst (λ v. Tells g.S.Save.told _ _ (bytes v ∷ [])) c.as_slice.ensures c.in_ok-bytes.ensures)
-    (tells_cons c.in_ok-field-7.ensures (tells_cons (subst (λ v. Tells g.S.Save.told _ _ (place v ∷ [])) c.home.ensures c.in_ok-place.ensures)
-    (tells_cons c.in_ok-field-8.ensures (tells_append c.in_ok-save_list.ensures tells_none))))))))))))))))
+    let it = c.args.self.now in
+    let named = subst (λ v. Tells g.S.Save.told c.tell_numbers.new.saver c.tell_texts.new.saver (field (codes "name") ∷ text v ∷ field (codes "mark") ∷ bytes c.as_slice.result.now ∷ field (codes "home") ∷ place c.home.result ∷ [])) c.as_str.ensures c.in_ok-tell_texts.ensures in
+    let marked = subst (λ v. Tells g.S.Save.told c.tell_numbers.new.saver c.tell_texts.new.saver (field (codes "name") ∷ text it.name ∷ field (codes "mark") ∷ bytes v ∷ field (codes "home") ∷ place c.home.result ∷ [])) c.as_slice.ensures named in
+    let placed = subst (λ v. Tells g.S.Save.told c.tell_numbers.new.saver c.tell_texts.new.saver (field (codes "name") ∷ text it.name ∷ field (codes "mark") ∷ bytes it.mark ∷ field (codes "home") ∷ place v ∷ [])) c.home.ensures marked in
+    tells_append c.in_ok-tell_numbers.ensures (tells_append placed (tells_cons c.in_ok-field.ensures (tells_append c.in_ok-save_list.ensures tells_none)))
