@@ -8,8 +8,8 @@ ghost use Rattle.caf_inspect.specs.Fitting.{both_hold, all_hold};
 ghost use Rattle.caf_inspect.specs.Tells.{Tells};
 
 use crate::{
-    Inspect, JsonLoader, Load, LoadFault, Save, WordLoader, from_json, from_words, load_list,
-    save_list, to_json, to_words,
+    Inspect, JsonLoader, Load, LoadFault, Save, WordLoader, from_json, from_text, from_words,
+    load_list, save_list, to_json, to_text, to_words,
 };
 use caf_types::{Letters, Memory, Octets, Seq, TypeId, TypeTable, type_block};
 use serde_json::Value as Json;
@@ -294,12 +294,7 @@ fn tell_numbers<S: Save>(sample: &Sample, saver: &mut S) -> Result<(), Memory>
 }
 
 /// Tells the next fields of a sample.
-fn tell_texts<S: Save>(
-    name: &str,
-    mark: &[u8],
-    home: u32,
-    saver: &mut S,
-) -> Result<(), Memory>
+fn tell_texts<S: Save>(name: &str, mark: &[u8], home: u32, saver: &mut S) -> Result<(), Memory>
     ensures { OnOk result (Tells S.told saver.old saver.new (events.field (codes "name") ∷ events.text name.now ∷ events.field (codes "mark") ∷ events.bytes mark.now ∷ events.field (codes "home") ∷ events.place home ∷ [])) }
 {
     saver.field("name")?;
@@ -326,7 +321,12 @@ impl Inspect for Sample {
 
     fn save<S: Save>(&self, saver: &mut S) -> Result<(), Memory> {
         tell_numbers(self, saver)?;
-        tell_texts(self.name.as_str(), self.mark.as_slice(), home(self.is_far), saver)?;
+        tell_texts(
+            self.name.as_str(),
+            self.mark.as_slice(),
+            home(self.is_far),
+            saver,
+        )?;
         saver.field("lines")?;
         save_list(&self.lines, saver)?;
         Ok(())
@@ -417,11 +417,29 @@ fn each_kind_of_shape_goes_through_words_and_json(rt: HostRuntime) -> Result<(),
     let alloc = rt.alloc();
     let table = sample_table(alloc)?;
     let spelled = [
-        8, 0, 1, 0xffff_ffff_ffff_ffff, 0x8000_0000_0000_0000, 3, 0x66_6163, 2, 0xff00, 255, 2, 2,
-        1, 0x61, 7, 2, 2, 0x6362, 8,
+        8,
+        0,
+        1,
+        0xffff_ffff_ffff_ffff,
+        0x8000_0000_0000_0000,
+        3,
+        0x66_6163,
+        2,
+        0xff00,
+        255,
+        2,
+        2,
+        1,
+        0x61,
+        7,
+        2,
+        2,
+        0x6362,
+        8,
     ]
     .as_slice();
-    let text = r#"{"change":-9223372036854775808,"count":18446744073709551615,"done":true,"home":255,"lines":[{"line":7,"word":"a"},{"line":8,"word":"bc"}],"mark":"00ff","name":"caf","nothing":null}"#;
+    let text =
+        r#"{"change":-9223372036854775808,"count":18446744073709551615,"done":true,"home":255,"lines":[{"line":7,"word":"a"},{"line":8,"word":"bc"}],"mark":"00ff","name":"caf","nothing":null}"#;
     let sample = first_sample(alloc)?;
     assert_eq!(rt; to_words(alloc, &sample)?.as_slice(), spelled);
     assert_eq!(rt; to_json(alloc, &sample)?.to_string(alloc)?.as_str(), text);
@@ -429,5 +447,39 @@ fn each_kind_of_shape_goes_through_words_and_json(rt: HostRuntime) -> Result<(),
     assert_eq!(rt; to_words(alloc, &read)?.as_slice(), spelled);
     let read: Sample = from_json(alloc, &table, &json(alloc, text)?)?;
     assert_eq!(rt; to_words(alloc, &read)?.as_slice(), spelled);
+    Ok(())
+}
+
+#[test]
+fn each_kind_of_shape_goes_through_text(rt: HostRuntime) -> Result<(), Fail> {
+    let alloc = rt.alloc();
+    let table = sample_table(alloc)?;
+    let text =
+        r#"{nothing: unit, done: true, count: 18446744073709551615, change: -9223372036854775808, name: "caf", mark: x"00ff", home: @255, lines: [{word: "a", line: 7}, {word: "bc", line: 8}]}"#;
+    let sample = first_sample(alloc)?;
+    assert_eq!(rt; to_text(alloc, &sample)?.as_str(), text);
+    let read: Sample = from_text(alloc, &table, text)?;
+    assert_eq!(rt; to_text(alloc, &read)?.as_str(), text);
+    Ok(())
+}
+
+#[test]
+fn a_summary_goes_through_text(rt: HostRuntime) -> Result<(), Fail> {
+    let alloc = rt.alloc();
+    let table = demo_table(alloc)?;
+    let summary = Summary {
+        words: 3,
+        postings: 4,
+    };
+    assert_eq!(rt;
+        to_text(alloc, &summary)?.as_str(),
+        "{words: 3, postings: 4}"
+    );
+    let read: Summary = from_text(alloc, &table, "{words: 3, postings: 4}")?;
+    assert_eq!(rt; (read.words, read.postings), (3, 4));
+    let answer: Result<Summary, LoadFault> = from_text(alloc, &table, "{words: x");
+    assert!(rt;
+        matches!(&answer, Err(LoadFault::Unfit(path)) if path.as_slice() == [8].as_slice())
+    );
     Ok(())
 }
