@@ -18,3 +18,8 @@ pub mod WordStarts
 pub mod Taken
 pub mod OneValue
 pub mod JsonPutting
+pub mod TextBuilding
+pub mod TextTelling
+pub mod TextFilling
+pub mod TextStarts
+pub mod TextValues

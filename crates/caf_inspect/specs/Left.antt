@@ -4,6 +4,7 @@ use Rattle.caf_inspect.specs.Event.{Event}
 use Rattle.caf_inspect.specs.Item.{events_in}
 use Rattle.caf_inspect.specs.declared.queue.EventQueue.{EventQueue}
 use Rattle.caf_inspect.specs.declared.json_loader.JsonLoader.{JsonLoader}
+use Rattle.caf_inspect.specs.declared.text_loader.TextLoader.{TextLoader}
 use Rattle.caf_inspect.specs.declared.word_loader.WordLoader.{WordLoader}
 
 abbrev pub queue_left : EventQueue → List Event
@@ -14,3 +15,6 @@ json_left loader = queue_left loader.events
 
 abbrev pub word_left : WordLoader → List Event
 word_left loader = queue_left loader.events
+
+abbrev pub text_left : TextLoader → List Event
+text_left loader = queue_left loader.events

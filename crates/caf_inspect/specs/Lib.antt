@@ -11,4 +11,7 @@ pub mod JsonForm
 pub mod JsonReading
 pub mod JsonStack
 pub mod JsonSaver
+pub mod TextStack
+pub mod TextSaver
 pub mod Left
+pub mod Fitting

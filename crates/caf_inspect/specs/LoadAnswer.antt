@@ -2,6 +2,9 @@
 use Rattle.std.specs.Prelude.{◌≡◌, ℕ, ◌+◌, List, [], ◌∷◌, length, Result, Ok, Err}
 use Rattle.caf_words.specs.declared.stop.SpellFault.{SpellFault}
 use Rattle.caf_words.specs.declared.stop.SpellFault.TheVariants as spell
+use Rattle.caf_text.specs.Front.{IsLongestFront}
+use Rattle.caf_text.specs.declared.stop.TextFault.{TextFault}
+use Rattle.caf_text.specs.declared.stop.TextFault.TheVariants as text
 use Rattle.caf_types.specs.Form.{Form}
 use Rattle.caf_types.specs.Table.{Table}
 use Rattle.caf_words.specs.Datum.{Datum}
@@ -40,3 +43,13 @@ abbrev pub Placed : SpellFault → LoadFault → Type 0
 Placed fault faults.Memory = Unit {0}
 Placed spell.Memory (faults.Unfit path) = ⊥
 Placed (spell.At place) (faults.Unfit path) = path ≡ place ∷ []
+
+-- the length of the longest front of the text that is the front of some text form of the shape
+abbrev pub TextFailsAt : Form → List ℕ → List ℕ → Type 0
+TextFailsAt f input path = (n : ℕ) × (path ≡ n ∷ []) × IsLongestFront f input n
+
+-- a length in bytes as a path
+abbrev pub AtLength : TextFault → LoadFault → Type 0
+AtLength fault faults.Memory = Unit {0}
+AtLength text.Memory (faults.Unfit path) = ⊥
+AtLength (text.At n) (faults.Unfit path) = path ≡ n ∷ []

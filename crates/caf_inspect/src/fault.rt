@@ -10,7 +10,8 @@ use thiserror::Error;
 pub enum LoadFault {
     /// The input is no form of the type's shape. The numbers tell where, each form in its own way:
     /// for words the one place of the first fault; for JSON the positions that lead down to the
-    /// first part that is missing or isn't of its shape.
+    /// first part that is missing or isn't of its shape; for text the length in bytes of the longest
+    /// front of the text that is the front of some text form of the shape.
     #[error("not a form of the type")]
     Unfit(Seq<u64>),
     #[error("out of memory")]

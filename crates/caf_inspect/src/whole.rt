@@ -5,10 +5,13 @@ ghost use Rattle.caf_types.specs.TypeTable.{seen};
 ghost use Rattle.caf_words.specs.Spelling.{Spells};
 ghost use Rattle.caf_inspect.specs.JsonForm.{HasJson, names_differ};
 ghost use Rattle.caf_inspect.specs.JsonReading.{unjson};
-ghost use Rattle.caf_inspect.specs.LoadAnswer.{Refused, WordsFailAt};
+ghost use Rattle.caf_text.specs.TextForm.{HasText};
+ghost use Rattle.caf_inspect.specs.LoadAnswer.{Refused, TextFailsAt, WordsFailAt};
 
-use crate::{Inspect, JsonLoader, JsonSaver, LoadFault, WordLoader, WordSaver};
-use caf_types::{Memory, TypeTable, Words};
+use crate::{
+    Inspect, JsonLoader, JsonSaver, LoadFault, TextLoader, TextSaver, WordLoader, WordSaver,
+};
+use caf_types::{Letters, Memory, TypeTable, Words};
 use serde_json::Value as Json;
 use std::alloc::Global;
 
@@ -57,6 +60,29 @@ pub fn from_json<T: Inspect>(alloc: Global, table: &TypeTable, json: &Json) -> R
     ensures unfit { IfErr result (Refused (λ d. HasJson T.shape d (view json.now)) (λ path. unjson T.shape (view json.now) ≡ Err path)) }
 {
     let mut loader = JsonLoader::start(alloc, table, T::type_id(), json)?;
+    let value = T::load(alloc, &mut loader)?;
+    Ok(value)
+}
+
+/// The text form of the value.
+pub fn to_text<T: Inspect>(alloc: Global, value: &T) -> Result<Letters, Memory>
+    ensures { IfOk result (λ text. HasText T.shape (T.means value.now) text) }
+{
+    let mut saver = TextSaver::new(alloc);
+    value.save(&mut saver)?;
+    Ok(saver.finish())
+}
+
+/// The value whose text form this is, where the table has the type's shape under the type's ID.
+///
+/// `Unfit` comes exactly where it is the form of none, with the length in bytes of the longest front
+/// of the text that is the front of some text form of the shape.
+pub fn from_text<T: Inspect>(alloc: Global, table: &TypeTable, text: &str) -> Result<T, LoadFault>
+    requires { shape_at (seen table.now) T.id ≡ Some T.shape }
+    ensures found { IfOk result (λ value. HasText T.shape (T.means value) text.now) }
+    ensures unfit { IfErr result (Refused (λ d. HasText T.shape d text.now) (TextFailsAt T.shape text.now)) }
+{
+    let mut loader = TextLoader::start(alloc, table, T::type_id(), text)?;
     let value = T::load(alloc, &mut loader)?;
     Ok(value)
 }

@@ -1,0 +1,115 @@
+ghost use Rattle.std.specs.Prelude.{◌≡◌, Some, is_some, IsTrue};
+ghost use Rattle.caf_types.specs.Form.{Form};
+ghost use Rattle.caf_types.specs.Shape.{form};
+ghost use Rattle.caf_types.specs.Table.{shape_at};
+ghost use Rattle.caf_types.specs.TypeTable.{seen};
+ghost use Rattle.caf_text.specs.TextForm.{HasText};
+ghost use Rattle.caf_inspect.specs.Left.{text_left};
+ghost use Rattle.caf_inspect.specs.LoadAnswer.{Started, TextFailsAt, AtLength};
+
+use crate::queue::EventQueue;
+use crate::{Load, LoadFault};
+use caf_text::{TextFault, read_text};
+use caf_types::{Letters, Memory, Octets, Seq, Shape, TypeId, TypeTable};
+use std::alloc::Global;
+
+/// Gives the events of the value that some text is the form of.
+#[derive(Debug, Drop)]
+pub struct TextLoader {
+    pub(crate) events: EventQueue,
+}
+
+impl TextLoader {
+    /// Reads a text as the form of a value of the type `id`, which is in the table.
+    ///
+    /// `Unfit` comes exactly where it is no text form of the type's shape. The path has one number,
+    /// the length in bytes of the longest front of the text that is the front of some text form of
+    /// the shape.
+    pub fn start(
+        alloc: Global,
+        table: &TypeTable,
+        id: TypeId,
+        text: &str,
+    ) -> Result<TextLoader, LoadFault>
+        requires { IsTrue (is_some (shape_at (seen table.now) id.0)) }
+        ensures { (f : Form) → shape_at (seen table.now) id.0 ≡ Some f →
+            Started text_left f (λ d. HasText f d text.now) (TextFailsAt f text.now) result }
+    {
+        match table.shape(id) {
+            Some(shape) => load_text(alloc, shape, text),
+            None => unreachable!(),
+        }
+    }
+}
+
+fn load_text(alloc: Global, shape: &Shape, text: &str) -> Result<TextLoader, LoadFault>
+    ensures { Started text_left (form shape.now) (λ d. HasText (form shape.now) d text.now) (TextFailsAt (form shape.now) text.now) result }
+{
+    match read_text(alloc, shape, text) {
+        Ok(value) => {
+            let events = EventQueue::of_value(alloc, shape, &value)?;
+            Ok(TextLoader { events })
+        }
+        Err(fault) => Err(load_fault(alloc, fault)),
+    }
+}
+
+/// The length as a path.
+fn load_fault(alloc: Global, fault: TextFault) -> LoadFault
+    ensures { AtLength fault result }
+{
+    match fault {
+        TextFault::Memory => LoadFault::Memory,
+        TextFault::At(length) => {
+            let mut path = Seq::new(alloc);
+            match path.push(length) {
+                Ok(()) => LoadFault::Unfit(path),
+                Err(_) => LoadFault::Memory,
+            }
+        }
+    }
+}
+
+impl Load for TextLoader {
+    ghost left = { text_left };
+
+    fn unit(&mut self) {
+        self.events.unit()
+    }
+
+    fn flag(&mut self) -> bool {
+        self.events.flag()
+    }
+
+    fn unsigned(&mut self) -> u64 {
+        self.events.unsigned()
+    }
+
+    fn signed(&mut self) -> i64 {
+        self.events.signed()
+    }
+
+    fn text(&mut self, alloc: Global) -> Result<Letters, Memory> {
+        self.events.text(alloc)
+    }
+
+    fn bytes(&mut self, alloc: Global) -> Result<Octets, Memory> {
+        self.events.bytes(alloc)
+    }
+
+    fn place(&mut self) -> u32 {
+        self.events.place()
+    }
+
+    fn list(&mut self) -> u64 {
+        self.events.list()
+    }
+
+    fn object(&mut self) -> u64 {
+        self.events.object()
+    }
+
+    fn field(&mut self, name: &str) {
+        self.events.field(name)
+    }
+}

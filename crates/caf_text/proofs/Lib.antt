@@ -1,0 +1,10 @@
+pub mod LoopLemmas
+pub mod Stops
+pub mod Numbers
+pub mod Lists
+pub mod Readers
+pub mod Digits
+pub mod Utf8
+pub mod QuotedLemmas
+pub mod Again
+pub mod WholeLemmas

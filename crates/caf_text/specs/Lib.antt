@@ -1,0 +1,4 @@
+pub mod TextForm
+pub mod Front
+pub mod TextReading
+pub mod Answer

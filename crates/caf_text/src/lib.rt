@@ -1,0 +1,28 @@
+//! The text form of values: how one is written, and how one is read.
+//!
+//! Model: a value of a shape has one text form, a list of bytes in UTF-8, which `TextForm` of the
+//! specifications gives.
+//!
+//! The contract that the layer above rests on: [`read_text`] takes exactly the text forms of the
+//! shape. Where the input is none, it tells how long the longest front of the input is that is the
+//! front of some text form of the shape.
+#![tactic(auto)]
+
+mod law;
+mod literal;
+mod number;
+mod quoted;
+mod reading;
+mod stop;
+mod whole;
+mod writing;
+
+pub use law::text_is_exact;
+pub use stop::TextFault;
+pub use whole::read_text;
+pub use writing::{
+    add_bytes, add_flag, add_place, add_plain, add_quoted, add_signed, add_unsigned,
+};
+
+#[cfg(test)]
+mod tests;
