@@ -16,3 +16,4 @@ pub mod Sharing
 pub mod Record
 pub mod Run
 pub mod Merge
+pub mod Carriers
