@@ -4,3 +4,5 @@ pub mod KeptLemmas
 pub mod CachedLemmas
 pub mod DrainLemmas
 pub mod SharingLemmas
+pub mod ExampleActors
+pub mod BatchExamples
