@@ -123,6 +123,10 @@ abbrev pub asked : ℕ → ℕ → Priority → List ℕ → Taken
 asked seq n priority words =
     record { sender = 0; seq = seq; mid = record { requester = 0; number = n; response = false }; priority = priority; stamp = 1; body = «plain».Content words }
 
+-- content that is no request
+abbrev pub told : ℕ → List ℕ → Taken
+told seq words = record { sender = 0; seq = seq; mid = no_request 0; priority = Normal; stamp = 1; body = «plain».Content words }
+
 abbrev pub answered : ℕ → ℕ → Plain → Taken
 answered seq n body =
     record { sender = 1; seq = seq; mid = record { requester = 0; number = n; response = true }; priority = Normal; stamp = 1; body = body }
@@ -144,3 +148,10 @@ notified to seq what = record {
   to = to;
   envelope = record { sender = 1; seq = seq; mid = no_request 1; priority = Urgent; stamp = 2; body = «plain».System what };
 }
+
+-- a request of place 0 to place 1, with stamp 1
+abbrev pub requested : ℕ → ℕ → List ℕ → PlainPost
+requested seq n words = record { to = 1; envelope = asked seq n Normal words }
+
+abbrev pub stamped : ℕ → PlainPost → PlainPost
+stamped stamp p = record { to = p.to; envelope = record p.envelope { stamp = stamp } }
