@@ -57,7 +57,7 @@ pub data Role : Type 0 where
   Keeper : Role
   -- quits at content
   Quitter : Role
-  -- one of so many places: at Start requests a text of place 1, at Stop ends all others
+  -- at Start requests two texts of place 1, at Stop ends all other of so many places
   Conductor : ℕ → Role
 
 pub record Player : Type 0 where
@@ -100,7 +100,8 @@ reaction_of Keeper (Content origin words) = answers answer.Hold
 reaction_of Quitter (Content origin words) = record { outputs = []; answer = answer.Hold; quit = Some reason.Failed }
 reaction_of (Asker how) Start =
     says (output.Request 1 Normal how 7 text_types (text 97) ∷ output.Request 1 Normal how 8 text_types (text 98) ∷ [])
-reaction_of (Conductor n) Start = says (output.Request 1 Normal mode.Multiplexed 7 text_types (text 97) ∷ [])
+reaction_of (Conductor n) Start =
+    says (output.Request 1 Normal mode.Multiplexed 7 text_types (text 97) ∷ output.Request 1 Normal mode.Multiplexed 8 text_types (text 98) ∷ [])
 reaction_of (Conductor n) Stop = says (kills 1 (n - 1))
 reaction_of _ _ = says []
 

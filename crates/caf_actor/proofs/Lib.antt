@@ -6,3 +6,5 @@ pub mod DrainLemmas
 pub mod SharingLemmas
 pub mod ExampleActors
 pub mod BatchExamples
+pub mod RecordExamples
+pub mod RunExamples

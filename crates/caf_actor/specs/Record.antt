@@ -140,7 +140,7 @@ stop_at m k (Some b) = stop_before m k b.stamp ∷ []
 
 -- to place 0 the outside sends Start, and then Stop, and to other places nothing
 abbrev pub outside_sends : {S : Type 0} → Machine S → Kept S → ℕ → ℕ → List Taken
-outside_sends m k a b = if (a == outside) && (b == 0) then start_envelope ∷ stop_at m k (cut_batch k) else []
+outside_sends m k a b = if (outside == a) && (0 == b) then start_envelope ∷ stop_at m k (cut_batch k) else []
 
 -- ---- each pair of a sender and a receiver
 

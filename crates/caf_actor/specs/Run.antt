@@ -20,7 +20,7 @@ abbrev pub opening_state : {S : Type 0} → ℕ → (ℕ → S) → State S
 opening_state places start = record {
   places = places;
   snapshot = start;
-  waiting = λ a b. if (a == outside) && (b == 0) then start_envelope ∷ [] else [];
+  waiting = λ a b. if (outside == a) && (0 == b) then start_envelope ∷ [] else [];
   is_stopped = false;
 }
 
@@ -72,7 +72,7 @@ take_batch m s t = record s {
 -- Stop waits for place 0, with the greatest stamp of all places
 abbrev pub send_stop : {S : Type 0} → Machine S → State S → State S
 send_stop m s = record s {
-  waiting = λ a b. s.waiting a b ++ when ((a == outside) && (b == 0)) (stop_envelope (latest m s.places s.snapshot) ∷ []);
+  waiting = λ a b. s.waiting a b ++ when ((outside == a) && (0 == b)) (stop_envelope (latest m s.places s.snapshot) ∷ []);
   is_stopped = true;
 }
 

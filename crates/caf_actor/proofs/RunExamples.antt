@@ -1,0 +1,92 @@
+-- The run of the record of three places, step by step.
+use Rattle.std.proofs.Common.{◌≡◌, ℕ, Bool, true, false, List, [], ◌∷◌, length, take, Option, Some, None, refl, ap, map, arith}
+use Rattle.caf_types.specs.declared.reason.Reason.TheVariants as reason
+use Rattle.caf_message.specs.declared.envelope.Taken.{Taken}
+use Rattle.caf_message.specs.Envelope.{start_envelope, stop_envelope}
+use Rattle.caf_actor.specs.declared.snapshot.Snapshot.{Snapshot}
+use Rattle.caf_actor.specs.PlainInput.{PlainInput, Start, Stop, Content, Response, Failed, Down}
+use Rattle.caf_actor.specs.Run.{State, Turn, Step, Take, opening_state, run, MayStop, kept_of}
+use Rattle.caf_actor.specs.Run as step
+use Rattle.caf_actor.specs.Merge.{steps_of}
+use Rattle.caf_actor.specs.Carriers.{carriers, waits, run_resolves, Resolution, times_resolved}
+use Rattle.caf_actor.proofs.ExampleActors.{text, Player, rules}
+use Rattle.caf_actor.proofs.RecordExamples.{machine, start, batch, first_request, second_request, first_response, second_response, kill, whole}
+
+-- the batches of the record by stamp, then by place
+abbrev turn : ℕ → ℕ → List Taken → Turn
+turn place stamp taken = record { place = place; batch = batch stamp taken }
+
+abbrev merged : List Turn
+merged =
+    turn 0 1 (start_envelope ∷ [])
+    ∷ turn 1 2 (first_request ∷ second_request ∷ [])
+    ∷ turn 0 3 (first_response ∷ second_response ∷ [])
+    ∷ turn 0 4 (stop_envelope 3 ∷ [])
+    ∷ turn 1 5 (kill 2 4 ∷ [])
+    ∷ turn 2 5 (kill 0 4 ∷ [])
+    ∷ []
+
+abbrev is_stop : Step → Bool
+is_stop step.Stop = true
+is_stop (step.Take t) = false
+
+-- the outside sends Stop before the fourth of them
+pub stop_is_fourth : map (λ (a : Step). is_stop a) (steps_of merged) ≡ false ∷ false ∷ false ∷ true ∷ false ∷ false ∷ false ∷ []
+stop_is_fourth = refl
+
+-- ---- where the steps lead
+
+abbrev state : List Step → State (Snapshot Player)
+state steps = run machine (opening_state 3 start) steps
+
+abbrev first_steps : ℕ → List Step
+first_steps n = take n (steps_of merged)
+
+-- at first Start waits, so the outside can't send Stop
+pub start_waits : (state []).waiting 256 0 ≡ start_envelope ∷ []
+start_waits = refl
+
+pub no_stop_at_first : MayStop machine (state []) → ⊥
+no_stop_at_first h = let wrong : ◌≡◌ {A = ℕ} 1 0 = ap length (h.rest.taken 256 0) in absurd (omega arith)
+
+pub requests_wait : (state (first_steps 1)).waiting 0 1 ≡ first_request ∷ second_request ∷ []
+requests_wait = refl
+
+pub responses_wait : (state (first_steps 2)).waiting 1 0 ≡ first_response ∷ second_response ∷ []
+responses_wait = refl
+
+-- Stop has the greatest stamp that there is
+pub stop_waits : (state (first_steps 4)).waiting 256 0 ≡ stop_envelope 3 ∷ []
+stop_waits = refl
+
+pub all_killed : map (λ (p : ℕ). ((state (steps_of merged)).snapshot p).quit) (0 ∷ 1 ∷ 2 ∷ []) ≡ None ∷ Some reason.Kill ∷ Some reason.Kill ∷ []
+all_killed = refl
+
+-- ---- the record of the run is the record
+
+pub same_cut : (kept_of 3 start (steps_of merged)).cut ≡ Some 2
+same_cut = refl
+
+pub same_first : (kept_of 3 start (steps_of merged)).journal 0 ≡ whole.journal 0
+same_first = refl
+
+pub same_second : (kept_of 3 start (steps_of merged)).journal 1 ≡ whole.journal 1
+same_second = refl
+
+-- ---- the first request of place 0
+
+abbrev carried : ℕ → ℕ
+carried n = carriers 0 1 (state (first_steps n))
+
+-- before it is issued, while it is untaken, while its response is, and once it is resolved
+pub one_carrier : map carried (0 ∷ 1 ∷ 2 ∷ 3 ∷ 7 ∷ []) ≡ 0 ∷ 1 ∷ 1 ∷ 0 ∷ 0 ∷ []
+one_carrier = refl
+
+pub it_waits : map (λ (n : ℕ). waits 0 1 (state (first_steps n))) (0 ∷ 1 ∷ 2 ∷ 3 ∷ 7 ∷ []) ≡ false ∷ true ∷ true ∷ false ∷ false ∷ []
+it_waits = refl
+
+pub resolutions : map (λ (r : Resolution). r.given) (run_resolves rules 0 (opening_state 3 start) (steps_of merged)) ≡ Response 7 (text 97) ∷ Response 8 (text 98) ∷ []
+resolutions = refl
+
+pub resolved_once : times_resolved 1 (run_resolves rules 0 (opening_state 3 start) (steps_of merged)) ≡ 1
+resolved_once = refl
