@@ -8,3 +8,4 @@ pub mod ExampleActors
 pub mod BatchExamples
 pub mod RecordExamples
 pub mod RunExamples
+pub mod StampLemmas

@@ -46,16 +46,17 @@ module _ (a n : ℕ) where
   abbrev pub carriers : {S : Type 0} → State (Snapshot S) → ℕ
   carriers s = sum_below s.places (λ p. carriers_at (s.snapshot p)) + sum_below s.places (carriers_to s)
 
-  -- the request has no response yet
+  -- the request waits for its response
   abbrev pub waits : {S : Type 0} → State (Snapshot S) → Bool
   waits s = is_waiting (s.snapshot a).pending n
 
-  -- a request that waits has one carrier, one that was resolved or not yet issued none, and one whose
-  -- requester has quit at most one
-  pub record IsCarried {S : Type 0} (s : State (Snapshot S)) : Type 0 where
-    pub waiting : (s.snapshot a).quit ≡ None → waits s ≡ true → carriers s ≡ 1
-    pub other : (s.snapshot a).quit ≡ None → waits s ≡ false → carriers s ≡ 0
-    pub quit : (s.snapshot a).quit ≢ None → carriers s ≤ 1
+  -- where it was resolved so many times: none before it is issued, one while it waits, none once it is
+  -- resolved, and never more than one
+  pub record IsCarried {S : Type 0} (s : State (Snapshot S)) (times : ℕ) : Type 0 where
+    pub unissued : (s.snapshot a).pending.next ≤ n → carriers s ≡ 0
+    pub waiting : waits s ≡ true → carriers s ≡ 1
+    pub resolved : 0 < times → carriers s ≡ 0
+    pub most : carriers s ≤ 1
 
 -- ---- resolutions
 
@@ -74,16 +75,15 @@ abbrev pub resolution_where : (Waiting → PlainInput) → Option (Waiting × Wa
 resolution_where given None = []
 resolution_where given (Some found) = record { request = found.0; given = given found.0 } ∷ []
 
-abbrev pub given_by : Plain → Waiting → PlainInput
-given_by («plain».Content words) w = response_input w words
-given_by («plain».Failure sec) w = failure_input w sec
-given_by («plain».System what) w = input.Start
+abbrev pub resolution_of : WaitingRequests → ℕ → Plain → List Resolution
+resolution_of pending number («plain».Content words) = resolution_where (λ w. response_input w words) (resolved pending number)
+resolution_of pending number («plain».Failure sec) = resolution_where (λ w. failure_input w sec) (resolved pending number)
+resolution_of pending number («plain».System what) = []
 
 -- the request that an envelope resolves, if it does: a response that is waited for, to an actor that
 -- hasn't quit
 abbrev pub resolves : {S : Type 0} → Snapshot S → Taken → List Resolution
-resolves s e =
-    if is_none s.quit && is_response e then resolution_where (given_by e.body) (resolved s.pending e.mid.number) else []
+resolves s e = if is_none s.quit && is_response e then resolution_of s.pending e.mid.number e.body else []
 
 -- those of a drain, in order
 abbrev pub turn_resolves : {S : Type 0} → Rules S → (Handled S → List Resolution) → Handled S → Option (Taken × Snapshot S) → List Resolution
@@ -129,7 +129,8 @@ module _ {S : Type 0} (valid : S → Type 0) (rules : Rules S) where
   abbrev pub OneCarrier : Type 0
   OneCarrier = (places : ℕ) (start : ℕ → Snapshot S) (steps : List Step) → AreFresh valid rules places start
       → IsRun (machine_of rules) (opening_state places start) steps
-      → (a n : ℕ) → a < places → 0 < n → IsCarried a n (end_of places start steps)
+      → (a n : ℕ) → a < places → 0 < n
+      → IsCarried a n (end_of places start steps) (times_resolved n (run_resolves rules a (opening_state places start) steps))
 
   -- no request is resolved twice, and each is resolved by a value of the declared types or by an error
   abbrev pub ResolvesOnce : Type 0
