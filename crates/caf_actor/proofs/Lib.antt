@@ -8,4 +8,5 @@ pub mod ExampleActors
 pub mod BatchExamples
 pub mod RecordExamples
 pub mod RunExamples
+pub mod CloserExample
 pub mod StampLemmas

@@ -53,6 +53,15 @@ abbrev first_seq : List Taken → ℕ
 first_seq [] = 0
 first_seq (e ∷ es) = e.seq
 
+abbrev first_stamp : List Taken → ℕ
+first_stamp [] = 0
+first_stamp (e ∷ es) = e.stamp
+
+-- 0 for none, else one more
+abbrev cut_number : Option ℕ → ℕ
+cut_number None = 0
+cut_number (Some n) = suc n
+
 abbrev pub kill : ℕ → ℕ → Taken
 kill seq stamp = record { sender = 0; seq = seq; mid = no_request 0; priority = Urgent; stamp = stamp; body = «plain».System (notice.Exit 0 reason.Kill) }
 
@@ -204,3 +213,19 @@ empty_batch h = absurd ((h.filled 2).0 refl)
 -- Stop is taken while both requests are untaken
 pub stop_before_rest : IsLegal machine (kept (batch 1 (start_envelope ∷ []) ∷ batch 2 (stop_envelope 1 ∷ []) ∷ []) [] [] (Some 1)) → ⊥
 stop_before_rest h = let wrong : ◌≡◌ {A = ℕ} 2 0 = ap length (h.stop.rest.taken 0 1) in absurd (omega arith)
+
+-- Stop has the stamp 2, and the greatest stamp is 3
+pub stop_of_other_stamp : IsLegal machine (kept
+      (batch 1 (start_envelope ∷ []) ∷ batch 3 (first_response ∷ second_response ∷ []) ∷ batch 4 (stop_envelope 2 ∷ []) ∷ [])
+      (batch 2 (first_request ∷ second_request ∷ []) ∷ []) [] (Some 2)) → ⊥
+stop_of_other_stamp h = let wrong : ◌≡◌ {A = ℕ} 2 3 = ap first_stamp h.stop.alone in absurd (omega arith)
+
+-- Stop is taken, and the cut doesn't say so
+pub cut_left_out : IsLegal machine (kept
+      (batch 1 (start_envelope ∷ []) ∷ batch 3 (first_response ∷ second_response ∷ []) ∷ batch 4 (stop_envelope 3 ∷ []) ∷ [])
+      (batch 2 (first_request ∷ second_request ∷ []) ∷ []) [] None) → ⊥
+cut_left_out h = let wrong : ◌≡◌ {A = ℕ} 0 3 = ap cut_number h.cut in absurd (omega arith)
+
+-- place 2 takes a request that went to place 1
+pub others_envelope : IsLegal machine (kept (batch 1 (start_envelope ∷ []) ∷ []) [] (batch 2 (first_request ∷ []) ∷ []) None) → ⊥
+others_envelope h = let wrong : suc (length (h.pairs 0 2).0) ≡ 0 = ap length (h.pairs 0 2).1 in absurd (omega arith)

@@ -1,6 +1,9 @@
 -- The run of the record of three places, step by step.
 use Rattle.std.proofs.Common.{◌≡◌, ℕ, Bool, true, false, List, [], ◌∷◌, length, take, Option, Some, None, refl, ap, map, arith}
+use Rattle.caf_types.specs.declared.notice.Priority.TheVariants.{Normal}
 use Rattle.caf_types.specs.declared.reason.Reason.TheVariants as reason
+use Rattle.caf_types.specs.declared.sec.Sec.TheVariants as sec
+use Rattle.caf_message.specs.declared.envelope.Plain.TheVariants as «plain»
 use Rattle.caf_message.specs.declared.envelope.Taken.{Taken}
 use Rattle.caf_message.specs.Envelope.{start_envelope, stop_envelope}
 use Rattle.caf_actor.specs.declared.snapshot.Snapshot.{Snapshot}
@@ -9,8 +12,8 @@ use Rattle.caf_actor.specs.Run.{State, Turn, Step, Take, opening_state, run, May
 use Rattle.caf_actor.specs.Run as step
 use Rattle.caf_actor.specs.Merge.{steps_of}
 use Rattle.caf_actor.specs.Carriers.{carriers, waits, run_resolves, Resolution, times_resolved}
-use Rattle.caf_actor.proofs.ExampleActors.{text, Player, rules}
-use Rattle.caf_actor.proofs.RecordExamples.{machine, start, batch, first_request, second_request, first_response, second_response, kill, whole}
+use Rattle.caf_actor.proofs.ExampleActors.{text, Role, Echo, Sleeper, Keeper, Quitter, Conductor, Player, rules, new_player, replied}
+use Rattle.caf_actor.proofs.RecordExamples.{machine, three, start, batch, first_request, second_request, first_response, second_response, kill, whole}
 
 -- the batches of the record by stamp, then by place
 abbrev turn : ℕ → ℕ → List Taken → Turn
@@ -90,3 +93,39 @@ resolutions = refl
 
 pub resolved_once : times_resolved 1 (run_resolves rules 0 (opening_state 3 start) (steps_of merged)) ≡ 1
 resolved_once = refl
+
+abbrev broken : Taken
+broken = (replied 0 1 Normal («plain».Failure sec.BrokenPromise)).envelope
+
+abbrev bounced : Taken
+bounced = (replied 1 2 Normal («plain».Failure sec.RequestReceiverDown)).envelope
+
+-- ---- the same request at other receivers: after two steps it is held, or cached, or its receiver has quit
+
+abbrev with_receiver : Role → List Step → State (Snapshot Player)
+with_receiver role steps = run machine (opening_state 3 (three (new_player (Conductor 3) 0) (new_player role 1) (new_player Echo 2) (new_player Echo 3))) steps
+
+pub held_carrier : carriers 0 1 (with_receiver Keeper (first_steps 2)) ≡ 1
+held_carrier = refl
+
+pub held_there : length ((with_receiver Keeper (first_steps 2)).snapshot 1).holds ≡ 2
+held_there = refl
+
+pub cached_carrier : carriers 0 1 (with_receiver Sleeper (first_steps 2)) ≡ 1
+cached_carrier = refl
+
+pub cached_there : length ((with_receiver Sleeper (first_steps 2)).snapshot 1).caches.normal ≡ 2
+cached_there = refl
+
+pub quit_carriers : carriers 0 1 (with_receiver Quitter (first_steps 2)) ≡ 1
+quit_carriers = refl
+
+pub bounced_carrier : carriers 0 2 (with_receiver Quitter (first_steps 2)) ≡ 1
+bounced_carrier = refl
+
+-- the receiver quit, and its answers end both requests by errors
+pub ends_by_errors : map (λ (r : Resolution). r.given)
+      (run_resolves rules 0 (opening_state 3 (three (new_player (Conductor 3) 0) (new_player Quitter 1) (new_player Echo 2) (new_player Echo 3)))
+        (Take (turn 0 1 (start_envelope ∷ [])) ∷ Take (turn 1 2 (first_request ∷ second_request ∷ [])) ∷ Take (turn 0 3 (broken ∷ bounced ∷ [])) ∷ []))
+    ≡ Failed 7 sec.BrokenPromise ∷ Failed 8 sec.RequestReceiverDown ∷ []
+ends_by_errors = refl
