@@ -1,5 +1,5 @@
 -- Single batches of small actors, computed from the definitions.
-use Rattle.std.proofs.Common.{◌≡◌, ℕ, Bool, true, false, List, [], ◌∷◌, Option, Some, None, map, refl}
+use Rattle.std.proofs.Common.{◌≡◌, List, [], ◌∷◌, Some, map, refl}
 use Rattle.caf_types.specs.declared.notice.Notice.TheVariants as notice
 use Rattle.caf_types.specs.declared.notice.Priority.TheVariants.{Urgent, Normal}
 use Rattle.caf_types.specs.declared.reason.Reason.TheVariants as reason
@@ -11,11 +11,10 @@ use Rattle.caf_response.specs.Promised.{Promised}
 use Rattle.caf_response.specs.declared.pending.Mode.{Mode}
 use Rattle.caf_response.specs.declared.pending.Mode.TheVariants.{Awaited, Multiplexed}
 use Rattle.caf_actor.specs.declared.snapshot.Snapshot.{Snapshot}
-use Rattle.caf_actor.specs.PlainInput.{PlainInput, Start, Stop, Content, Response, Failed, Down}
+use Rattle.caf_actor.specs.PlainInput.{Start, Response, Failed}
 use Rattle.caf_actor.specs.PlainPost.{PlainPost}
-use Rattle.caf_actor.specs.Snapshot.{Handled}
 use Rattle.caf_actor.specs.Drain.{batch_of}
-use Rattle.caf_actor.proofs.ExampleActors.{text, wake, number, Role, Echo, Sleeper, Asker, Keeper, Quitter, Conductor, Player, rules, new_player, asked, told, answered, noticed, replied, requested, notified, stamped}
+use Rattle.caf_actor.proofs.ExampleActors.{text, wake, number, Echo, Sleeper, Asker, Keeper, Quitter, Player, rules, new_player, asked, told, answered, noticed, replied, requested, notified, stamped}
 
 -- the snapshot after a batch, and what it posts
 abbrev next : Snapshot Player → List Taken → Snapshot Player
@@ -127,7 +126,7 @@ place_0_stays = refl
 
 -- a broken promise, the cached request, an exit notice to each link, and a down notice to the monitor
 pub quits_in_order : posts (new_player Quitter 1)
-      (noticed 3 0 (notice.Link 3) ∷ noticed 2 0 (notice.Link 2) ∷ noticed 4 0 (notice.Watch 4) ∷ asked 0 1 Normal (text 97) ∷ asked 1 2 Normal (text 98) ∷ [])
+    (noticed 3 0 (notice.Link 3) ∷ noticed 2 0 (notice.Link 2) ∷ noticed 4 0 (notice.Watch 4) ∷ asked 0 1 Normal (text 97) ∷ asked 1 2 Normal (text 98) ∷ [])
     ≡ replied 0 1 Normal («plain».Failure sec.BrokenPromise)
     ∷ replied 1 2 Normal («plain».Failure sec.RequestReceiverDown)
     ∷ notified 2 0 (notice.Exit 1 reason.Failed)
@@ -138,9 +137,9 @@ quits_in_order = refl
 
 -- a quit actor answers a request, a link notice and a watch notice, and drops the rest
 pub shell_answers : posts (next (new_player Echo 1) (noticed 2 0 (notice.Exit 2 reason.Failed) ∷ []))
-      (asked 0 1 Urgent (text 97) ∷ noticed 3 0 (notice.Link 3) ∷ noticed 4 0 (notice.Watch 4)
-        ∷ noticed 3 1 (notice.Unlink 3) ∷ noticed 2 1 (notice.Exit 2 reason.Kill) ∷ noticed 2 2 (notice.Down 2 reason.Kill)
-        ∷ told 1 (text 98) ∷ answered 0 1 («plain».Content (text 98)) ∷ [])
+    (asked 0 1 Urgent (text 97) ∷ noticed 3 0 (notice.Link 3) ∷ noticed 4 0 (notice.Watch 4)
+    ∷ noticed 3 1 (notice.Unlink 3) ∷ noticed 2 1 (notice.Exit 2 reason.Kill) ∷ noticed 2 2 (notice.Down 2 reason.Kill)
+    ∷ told 1 (text 98) ∷ answered 0 1 («plain».Content (text 98)) ∷ [])
     ≡ stamped 3 (replied 0 1 Urgent («plain».Failure sec.RequestReceiverDown))
     ∷ stamped 3 (notified 3 0 (notice.Exit 1 reason.Failed))
     ∷ stamped 3 (notified 4 0 (notice.Down 1 reason.Failed))

@@ -1,9 +1,8 @@
 -- The conductor of the record of three places is a closer.
-use Rattle.std.proofs.Common.{◌≡◌, ◌≢◌, ℕ, zero, suc, ◌<◌, ◌++◌, List, [], ◌∷◌, Option, None, Contains, slice_index_or, refl, sym, subst, arith}
-use Rattle.std.specs.List.{AllByRecursion}
+use Rattle.std.proofs.Common.{◌≡◌, ◌≢◌, ℕ, zero, suc, ◌<◌, ◌++◌, List, [], ◌∷◌, None, Contains, slice_index_or, refl, sym, subst, arith}
 use Rattle.caf_actor.specs.PlainInput.{PlainInput, Start, Stop, Content, Response, Failed, Down}
 use Rattle.caf_actor.specs.PlainReaction.{PlainReaction}
-use Rattle.caf_actor.specs.Record.{fed, MayBeFed, ComesLate, kills, SendsNothingTo, IsCloser}
+use Rattle.caf_actor.specs.Record.{fed, ComesLate, kills, SendsNothingTo, IsCloser}
 use Rattle.caf_actor.proofs.ExampleActors.{Role, Conductor, Player, rules, reaction_of}
 use Rattle.caf_actor.proofs.RecordExamples.{start}
 

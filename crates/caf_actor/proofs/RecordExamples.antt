@@ -11,7 +11,7 @@ use Rattle.caf_actor.specs.declared.journal.TakenBatch.{TakenBatch}
 use Rattle.caf_actor.specs.declared.snapshot.Snapshot.{Snapshot}
 use Rattle.caf_actor.specs.PlainPost.{PlainPost}
 use Rattle.caf_actor.specs.Record.{Machine, machine_of, IsPrefix, from_place, to_place, joined, posted, AreStamped, Kept, ends, before, taken_by, sent_by, untaken, IsAtRest, IsLegal, IsComplete, handled}
-use Rattle.caf_actor.proofs.ExampleActors.{text, Echo, Conductor, Player, rules, new_player, asked, replied, stamped}
+use Rattle.caf_actor.proofs.ExampleActors.{text, Echo, Conductor, Player, rules, new_player, asked, replied}
 
 -- ---- the places
 
@@ -96,7 +96,7 @@ each_sender P p q r s other (suc (suc (suc a))) = go (256 == suc (suc (suc a))) 
     go true e = subst P (eqb-true 256 (suc (suc (suc a))) e) s
     go false e = other a e
 
-each_place : (P : ℕ → Type 0) → P 0 → P 1 → P 2 → ((p : ℕ) → P (suc (suc (suc p)))) → (p : ℕ) → P p
+pub each_place : (P : ℕ → Type 0) → P 0 → P 1 → P 2 → ((p : ℕ) → P (suc (suc (suc p)))) → (p : ℕ) → P p
 each_place P p q r other zero = p
 each_place P p q r other (suc zero) = q
 each_place P p q r other (suc (suc zero)) = r
@@ -177,10 +177,10 @@ legal = record {
       (each_place (λ b. IsPrefix (taken_by whole 2 b) (sent_by machine whole 2 b)) ([], refl) ([], refl) ([], refl) (λ b. prefix_none _ _ refl))
       (each_place (λ b. IsPrefix (taken_by whole 256 b) (sent_by machine whole 256 b)) ([], refl) ([], refl) ([], refl) (λ b. prefix_none _ _ refl))
       (λ a q. each_place (λ b. IsPrefix (taken_by whole (suc (suc (suc a))) b) (sent_by machine whole (suc (suc (suc a))) b))
-          (prefix_none _ _ (none_from (suc (suc (suc a))) (joined (whole.journal 0)) (q, (one_no_more a, (one_no_more a, (q, tt))))))
-          (prefix_none _ _ (none_from (suc (suc (suc a))) (joined (whole.journal 1)) (zero_no_more a, (zero_no_more a, (zero_no_more a, tt)))))
-          (prefix_none _ _ (none_from (suc (suc (suc a))) (joined (whole.journal 2)) (zero_no_more a, tt)))
-          (λ b. prefix_none _ _ refl));
+      (prefix_none _ _ (none_from (suc (suc (suc a))) (joined (whole.journal 0)) (q, (one_no_more a, (one_no_more a, (q, tt))))))
+      (prefix_none _ _ (none_from (suc (suc (suc a))) (joined (whole.journal 1)) (zero_no_more a, (zero_no_more a, (zero_no_more a, tt)))))
+      (prefix_none _ _ (none_from (suc (suc (suc a))) (joined (whole.journal 2)) (zero_no_more a, tt)))
+      (λ b. prefix_none _ _ refl));
   cut = refl;
   stop = record { alone = refl; rest = before_stop };
 }
@@ -216,14 +216,14 @@ stop_before_rest h = let wrong : ◌≡◌ {A = ℕ} 2 0 = ap length (h.stop.res
 
 -- Stop has the stamp 2, and the greatest stamp is 3
 pub stop_of_other_stamp : IsLegal machine (kept
-      (batch 1 (start_envelope ∷ []) ∷ batch 3 (first_response ∷ second_response ∷ []) ∷ batch 4 (stop_envelope 2 ∷ []) ∷ [])
-      (batch 2 (first_request ∷ second_request ∷ []) ∷ []) [] (Some 2)) → ⊥
+    (batch 1 (start_envelope ∷ []) ∷ batch 3 (first_response ∷ second_response ∷ []) ∷ batch 4 (stop_envelope 2 ∷ []) ∷ [])
+    (batch 2 (first_request ∷ second_request ∷ []) ∷ []) [] (Some 2)) → ⊥
 stop_of_other_stamp h = let wrong : ◌≡◌ {A = ℕ} 2 3 = ap first_stamp h.stop.alone in absurd (omega arith)
 
 -- Stop is taken, and the cut doesn't say so
 pub cut_left_out : IsLegal machine (kept
-      (batch 1 (start_envelope ∷ []) ∷ batch 3 (first_response ∷ second_response ∷ []) ∷ batch 4 (stop_envelope 3 ∷ []) ∷ [])
-      (batch 2 (first_request ∷ second_request ∷ []) ∷ []) [] None) → ⊥
+    (batch 1 (start_envelope ∷ []) ∷ batch 3 (first_response ∷ second_response ∷ []) ∷ batch 4 (stop_envelope 3 ∷ []) ∷ [])
+    (batch 2 (first_request ∷ second_request ∷ []) ∷ []) [] None) → ⊥
 cut_left_out h = let wrong : ◌≡◌ {A = ℕ} 0 3 = ap cut_number h.cut in absurd (omega arith)
 
 -- place 2 takes a request that went to place 1

@@ -1,5 +1,5 @@
 -- The run of the record of three places, step by step.
-use Rattle.std.proofs.Common.{◌≡◌, ℕ, Bool, true, false, List, [], ◌∷◌, length, take, Option, Some, None, refl, ap, map, arith}
+use Rattle.std.proofs.Common.{◌≡◌, ℕ, Bool, true, false, List, [], ◌∷◌, length, take, Some, None, refl, ap, map, arith, suc, ◌==◌, ne_eqb, inl, inr}
 use Rattle.caf_types.specs.declared.notice.Priority.TheVariants.{Normal}
 use Rattle.caf_types.specs.declared.reason.Reason.TheVariants as reason
 use Rattle.caf_types.specs.declared.sec.Sec.TheVariants as sec
@@ -7,13 +7,13 @@ use Rattle.caf_message.specs.declared.envelope.Plain.TheVariants as «plain»
 use Rattle.caf_message.specs.declared.envelope.Taken.{Taken}
 use Rattle.caf_message.specs.Envelope.{start_envelope, stop_envelope}
 use Rattle.caf_actor.specs.declared.snapshot.Snapshot.{Snapshot}
-use Rattle.caf_actor.specs.PlainInput.{PlainInput, Start, Stop, Content, Response, Failed, Down}
+use Rattle.caf_actor.specs.PlainInput.{Response, Failed}
 use Rattle.caf_actor.specs.Run.{State, Turn, Step, Take, opening_state, run, MayStop, kept_of}
 use Rattle.caf_actor.specs.Run as step
-use Rattle.caf_actor.specs.Merge.{steps_of}
+use Rattle.caf_actor.specs.Merge.{batches_in, IsMerge, steps_of}
 use Rattle.caf_actor.specs.Carriers.{carriers, waits, run_resolves, Resolution, times_resolved}
 use Rattle.caf_actor.proofs.ExampleActors.{text, Role, Echo, Sleeper, Keeper, Quitter, Conductor, Player, rules, new_player, replied}
-use Rattle.caf_actor.proofs.RecordExamples.{machine, three, start, batch, first_request, second_request, first_response, second_response, kill, whole}
+use Rattle.caf_actor.proofs.RecordExamples.{machine, three, each_place, start, batch, first_request, second_request, first_response, second_response, kill, whole}
 
 -- the batches of the record by stamp, then by place
 abbrev turn : ℕ → ℕ → List Taken → Turn
@@ -125,7 +125,32 @@ bounced_carrier = refl
 
 -- the receiver quit, and its answers end both requests by errors
 pub ends_by_errors : map (λ (r : Resolution). r.given)
-      (run_resolves rules 0 (opening_state 3 (three (new_player (Conductor 3) 0) (new_player Quitter 1) (new_player Echo 2) (new_player Echo 3)))
-        (Take (turn 0 1 (start_envelope ∷ [])) ∷ Take (turn 1 2 (first_request ∷ second_request ∷ [])) ∷ Take (turn 0 3 (broken ∷ bounced ∷ [])) ∷ []))
+    (run_resolves rules 0 (opening_state 3 (three (new_player (Conductor 3) 0) (new_player Quitter 1) (new_player Echo 2) (new_player Echo 3)))
+    (Take (turn 0 1 (start_envelope ∷ [])) ∷ Take (turn 1 2 (first_request ∷ second_request ∷ [])) ∷ Take (turn 0 3 (broken ∷ bounced ∷ [])) ∷ []))
     ≡ Failed 7 sec.BrokenPromise ∷ Failed 8 sec.RequestReceiverDown ∷ []
 ends_by_errors = refl
+
+-- ---- the order
+
+nothing_there : (p : ℕ) → batches_in (suc (suc (suc p))) merged ≡ []
+nothing_there p =
+    let q : (suc (suc (suc p)) == 0) ≡ false = ne_eqb (suc (suc (suc p))) 0 (λ e. omega arith) in
+    let r : (suc (suc (suc p)) == 1) ≡ false = ne_eqb (suc (suc (suc p))) 1 (λ e. omega arith) in
+    let s : (suc (suc (suc p)) == 2) ≡ false = ne_eqb (suc (suc (suc p))) 2 (λ e. omega arith) in
+    rw (q, r, s) refl
+
+-- all batches of the record, by stamp, then by place
+pub is_merge : IsMerge whole merged
+is_merge = record {
+  parts = each_place (λ p. batches_in p merged ≡ whole.journal p) refl refl refl (λ p. nothing_there p);
+  order = (
+    (inl (omega arith), (inl (omega arith), (inl (omega arith), (inl (omega arith), (inl (omega arith), tt))))),
+    (
+      (inl (omega arith), (inl (omega arith), (inl (omega arith), (inl (omega arith), tt)))),
+      (
+        (inl (omega arith), (inl (omega arith), (inl (omega arith), tt))),
+        ((inl (omega arith), (inl (omega arith), tt)), ((inr (refl, omega arith), tt), (tt, tt))),
+      ),
+    ),
+  );
+}

@@ -1,5 +1,5 @@
 -- What a batch posts has its stamp and its place, and what it takes has lesser stamps.
-use Rattle.std.proofs.Common.{◌≡◌, ℕ, ◌+◌, ◌≤◌, ◌<◌, max, List, [], ◌∷◌, ◌++◌, Option, Some, None, refl, subst, arith}
+use Rattle.std.proofs.Common.{◌≡◌, ℕ, ◌+◌, ◌≤◌, ◌<◌, max, List, [], ◌∷◌, Option, Some, None, refl, subst, arith}
 use Rattle.std.specs.List.{AllByRecursion}
 use Rattle.caf_types.specs.declared.notice.Mid.{Mid}
 use Rattle.caf_types.specs.declared.notice.Priority.{Priority}

@@ -1,5 +1,5 @@
 -- Where a request, or the answer to it, is; and how requests end.
-use Rattle.std.specs.Prelude.{◌≡◌, ◌≢◌, ℕ, zero, suc, ◌+◌, ◌≤◌, ◌<◌, ◌==◌, ◌&&◌, ◌||◌, not, Bool, true, false, if◌then◌else◌, List, [], ◌∷◌, ◌++◌, count_by, filter, Option, Some, None, is_none}
+use Rattle.std.specs.Prelude.{◌≡◌, ◌≢◌, ℕ, zero, suc, ◌+◌, ◌≤◌, ◌<◌, ◌==◌, ◌&&◌, ◌||◌, Bool, true, false, if◌then◌else◌, List, [], ◌∷◌, ◌++◌, count_by, Option, Some, None, is_none}
 use Rattle.std.specs.List.{AllByRecursion}
 use Rattle.caf_types.specs.declared.notice.Mid.{Mid}
 use Rattle.caf_words.specs.Several.{ids_of}
@@ -10,7 +10,6 @@ use Rattle.caf_message.specs.Content.{ids_in}
 use Rattle.caf_message.specs.Envelope.{is_request, is_response, outside}
 use Rattle.caf_response.specs.declared.pending.Waiting.{Waiting}
 use Rattle.caf_response.specs.Pending.{WaitingRequests, is_waiting, resolved, waiting_count}
-use Rattle.caf_response.specs.Promised.{Promised}
 use Rattle.caf_response.specs.Holds.{is_of}
 use Rattle.caf_actor.specs.declared.snapshot.Snapshot.{Snapshot}
 use Rattle.caf_actor.specs.PlainInput.{PlainInput}
@@ -149,7 +148,7 @@ module _ {S : Type 0} (valid : S → Type 0) (rules : Rules S) where
       → (a n : ℕ) → a < places → 0 < n → n < ((end_of places start steps).snapshot a).pending.next
       → ((end_of places start steps).snapshot a).quit ≡ None
       → waiting_count ((end_of places start steps).snapshot a).pending n
-        + times_resolved n (run_resolves rules a (opening_state places start) steps) ≡ 1
+      + times_resolved n (run_resolves rules a (opening_state places start) steps) ≡ 1
 
   -- at rest each carrier is a hold or a cached envelope, and no cached envelope is eligible
   abbrev pub CarriersRest : Type 0
@@ -164,4 +163,4 @@ module _ {S : Type 0} (valid : S → Type 0) (rules : Rules S) where
       → IsCloser rules k.places (λ p. (k.start p).behavior) → IsComplete (machine_of rules) k → IsMerge k ts
       → ((p : ℕ) → 0 < p → p < k.places → (ends (machine_of rules) k p).quit ≢ None)
       × ((n : ℕ) → 0 < n → n < (ends (machine_of rules) k 0).pending.next
-          → times_resolved n (run_resolves rules 0 (opening_state k.places k.start) (steps_of ts)) ≡ 1)
+      → times_resolved n (run_resolves rules 0 (opening_state k.places k.start) (steps_of ts)) ≡ 1)

@@ -1,5 +1,5 @@
 -- All batches of a record in one order, and how that is a run.
-use Rattle.std.specs.Prelude.{◌≡◌, ℕ, ◌≤◌, ◌<◌, ◌==◌, ◌⊎◌, Bool, true, false, if◌then◌else◌, List, [], ◌∷◌, is_some}
+use Rattle.std.specs.Prelude.{◌≡◌, ℕ, ◌≤◌, ◌<◌, ◌==◌, ◌⊎◌, if◌then◌else◌, List, [], ◌∷◌, is_some}
 use Rattle.std.specs.List.{AllByRecursion}
 use Rattle.caf_message.specs.Envelope.{outside}
 use Rattle.caf_actor.specs.declared.journal.TakenBatch.{TakenBatch}
@@ -46,4 +46,4 @@ abbrev pub RunIsLegal : {S : Type 0} → Machine S → Type 0
 RunIsLegal {S} m = (places : ℕ) (start : ℕ → S) (steps : List Step) → places ≤ outside → IsRun m (opening_state places start) steps
     → IsLegal m (kept_of places start steps)
     × ((run m (opening_state places start) steps).is_stopped ≡ is_some (kept_of places start steps).cut
-        → EndsAs m (kept_of places start steps) (run m (opening_state places start) steps))
+    → EndsAs m (kept_of places start steps) (run m (opening_state places start) steps))
