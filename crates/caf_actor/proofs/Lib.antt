@@ -10,3 +10,4 @@ pub mod RecordExamples
 pub mod RunExamples
 pub mod CloserExample
 pub mod StampLemmas
+pub mod ResolutionLemmas
