@@ -13,3 +13,7 @@ pub mod Handling
 pub mod Drain
 pub mod Actor
 pub mod Sharing
+pub mod Record
+pub mod Run
+pub mod Merge
+pub mod Carriers

@@ -1,0 +1,107 @@
+-- Each request is resolved by a value of the declared types or by an error, and what is left at rest.
+use Rattle.std.proofs.Common.{◌≡◌, ℕ, zero, suc, ◌+◌, ◌<◌, ◌==◌, ◌&&◌, ◌||◌, not, bytes_eq, Bool, true, false, if◌then◌else◌, List, [], ◌∷◌, ◌++◌, count_by, Option, Some, None, is_none, refl, sym, ap, ◌∙◌, arith}
+use Rattle.std.specs.List.{AllByRecursion, list_any}
+use Rattle.std.proofs.lemmas.Slice.Eq.{bytes_eq-Decides}
+use Rattle.caf_words.specs.Several.{ids_of}
+use Rattle.caf_message.specs.declared.envelope.Taken.{Taken}
+use Rattle.caf_message.specs.declared.envelope.Plain.{Plain}
+use Rattle.caf_message.specs.declared.envelope.Plain.TheVariants as «plain»
+use Rattle.caf_message.specs.Content.{ids_in}
+use Rattle.caf_message.specs.Envelope.{is_response, outside}
+use Rattle.caf_mailbox.specs.Caches.{CachedLists, has_eligible}
+use Rattle.caf_mailbox.proofs.NextLemmas.{all_append}
+use Rattle.caf_response.specs.declared.pending.Waiting.{Waiting}
+use Rattle.caf_response.specs.Pending.{WaitingRequests, resolved}
+use Rattle.caf_actor.specs.declared.snapshot.Snapshot.{Snapshot}
+use Rattle.caf_actor.specs.PlainInput.{PlainInput, Response, Failed}
+use Rattle.caf_actor.specs.Rules.{Rules}
+use Rattle.caf_actor.specs.Snapshot.{Handled, cached, is_eligible, next_envelope}
+use Rattle.caf_actor.specs.Quitting.{all_cached}
+use Rattle.caf_actor.specs.Handling.{handle_one, response_input, failure_input}
+use Rattle.caf_actor.specs.Drain.{with_batch}
+use Rattle.caf_actor.specs.Record.{machine_of, IsStill, sum_below}
+use Rattle.caf_actor.specs.Run.{State, Turn, Step, Take, Stop, step, opening_state}
+use Rattle.caf_actor.specs.Carriers.{Resolution, Ends, resolution_where, resolution_of, resolves, turn_resolves, drain_resolves, batch_resolves, step_resolves, run_resolves, EndsAsDeclared, carries, carriers_at, carriers_to, carriers, CarriersRest}
+
+-- ---- how requests end
+
+abbrev IsEnded : Resolution → Type 0
+IsEnded r = Ends r.request r.given
+
+ends_by_response : (w : Waiting) (words : List ℕ) → Ends w (response_input w words)
+ends_by_response w words = go (bytes_eq (ids_of w.expected) (ids_in words)) refl
+  where
+    go : (b : Bool) → bytes_eq (ids_of w.expected) (ids_in words) ≡ b → Ends w (response_input w words)
+    go true e = let same : ids_of w.expected ≡ ids_in words = (bytes_eq-Decides (ids_of w.expected) (ids_in words)).0 e in rw e (refl, sym same)
+    go false e = rw e refl
+
+ended_where : (given : Waiting → PlainInput) → ((w : Waiting) → Ends w (given w)) → (found : Option (Waiting × WaitingRequests)) → AllByRecursion IsEnded (resolution_where given found)
+ended_where given ends None = tt
+ended_where given ends (Some found) = (ends found.0, tt)
+
+ended_of : (pending : WaitingRequests) (number : ℕ) (body : Plain) → AllByRecursion IsEnded (resolution_of pending number body)
+ended_of pending number («plain».Content words) = ended_where (λ w. response_input w words) (λ w. ends_by_response w words) (resolved pending number)
+ended_of pending number («plain».Failure sec) = ended_where (λ w. failure_input w sec) (λ w. refl) (resolved pending number)
+ended_of pending number («plain».System what) = tt
+
+ended_if : (b : Bool) (rs : List Resolution) → AllByRecursion IsEnded rs → AllByRecursion IsEnded (if b then rs else [])
+ended_if true rs h = h
+ended_if false rs h = tt
+
+module _ {S : Type 0} (rules : Rules S) where
+  ended_one : (s : Snapshot S) (e : Taken) → AllByRecursion IsEnded (resolves s e)
+  ended_one s e = ended_if (is_none s.quit && is_response e) _ (ended_of s.pending e.mid.number e.body)
+
+  ended_turn : (go : Handled S → List Resolution) → ((t : Handled S) → AllByRecursion IsEnded (go t)) → (t : Handled S) (r : Option (Taken × Snapshot S)) → AllByRecursion IsEnded (turn_resolves rules go t r)
+  ended_turn go later t None = tt
+  ended_turn go later t (Some p) = all_append IsEnded (resolves p.1 p.0) (go (handle_one rules (p.1, t.1) p.0)) (ended_one p.1 p.0) (later (handle_one rules (p.1, t.1) p.0))
+
+  ended_drain : (n : ℕ) (t : Handled S) → AllByRecursion IsEnded (drain_resolves rules n t)
+  ended_drain zero t = tt
+  ended_drain (suc n) t = ended_turn (drain_resolves rules n) (ended_drain n) t (next_envelope rules t.0)
+
+  ended_step : (a : ℕ) (s : State (Snapshot S)) (b : Step) → AllByRecursion IsEnded (step_resolves rules a s b)
+  ended_step a s (Take t) = ended_if (a == t.place) _ (ended_drain (cached (with_batch (s.snapshot a) t.batch.taken)) (with_batch (s.snapshot a) t.batch.taken, []))
+  ended_step a s Stop = tt
+
+  ended_run : (a : ℕ) (s : State (Snapshot S)) (steps : List Step) → AllByRecursion IsEnded (run_resolves rules a s steps)
+  ended_run a s [] = tt
+  ended_run a s (b ∷ steps) = all_append IsEnded (step_resolves rules a s b) _ (ended_step a s b) (ended_run a (step (machine_of rules) s b) steps)
+
+  pub ends_as_declared : (valid : S → Type 0) → EndsAsDeclared valid rules
+  ends_as_declared valid places start steps a = ended_run a (opening_state places start) steps
+
+-- ---- what is left at rest
+
+sum_of_none : (n : ℕ) (f : ℕ → ℕ) → ((i : ℕ) → f i ≡ 0) → sum_below n f ≡ 0
+sum_of_none zero f none = refl
+sum_of_none (suc n) f none = let h = sum_of_none n f none in let k = none n in omega arith
+
+no_test : {A : Type 0} → (test : A → Bool) (xs : List A) → list_any test xs ≡ false → AllByRecursion (λ x. test x ≡ false) xs
+no_test test [] h = tt
+no_test test (x ∷ xs) h = go (no_test test xs) (test x) refl h
+  where
+    go : (list_any test xs ≡ false → AllByRecursion (λ y. test y ≡ false) xs) → (b : Bool) → test x ≡ b → (b || list_any test xs) ≡ false → AllByRecursion (λ y. test y ≡ false) (x ∷ xs)
+    go rest true e h = cc
+    go rest false e h = (e, rest h)
+
+none_cached : (test : Taken → Bool) (lists : CachedLists) → not (has_eligible test lists) ≡ true → AllByRecursion (λ e. test e ≡ false) (all_cached lists)
+none_cached test lists h = go (list_any test lists.urgent) refl (list_any test lists.normal) refl h
+  where
+    go : (u : Bool) → list_any test lists.urgent ≡ u → (n : Bool) → list_any test lists.normal ≡ n → not (u || n) ≡ true → AllByRecursion (λ e. test e ≡ false) (all_cached lists)
+    go true e n f h = cc
+    go false e true f h = cc
+    go false e false f h = all_append (λ e. test e ≡ false) lists.urgent lists.normal (no_test test lists.urgent e) (no_test test lists.normal f)
+
+module _ {S : Type 0} (rules : Rules S) where
+  none_to : (a n : ℕ) (s : State (Snapshot S)) → IsStill (machine_of rules) s.places s.snapshot s.waiting → (b : ℕ) → carriers_to a n s b ≡ 0
+  none_to a n s still b =
+      let inside : sum_below s.places (λ from. count_by (carries a n) (s.waiting from b)) ≡ 0 = sum_of_none s.places _ (λ from. rw (still.taken from b) refl) in
+      let without : count_by (carries a n) (s.waiting outside b) ≡ 0 = rw (still.taken outside b) refl in
+      omega arith
+
+  pub carriers_rest : (valid : S → Type 0) → CarriersRest valid rules
+  carriers_rest valid s still = (
+    λ a n. let none : sum_below s.places (carriers_to a n s) ≡ 0 = sum_of_none s.places _ (none_to a n s still) in omega arith,
+    λ p here. none_cached (is_eligible rules (s.snapshot p)) (s.snapshot p).caches (still.idle p here),
+  )
