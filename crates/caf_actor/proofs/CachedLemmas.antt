@@ -1,5 +1,5 @@
 -- How many envelopes are cached, and what is left in the lists.
-use Rattle.std.proofs.Common.{◌≡◌, ℕ, suc, ◌+◌, ◌≤◌, Bool, true, false, List, [], ◌∷◌, ◌++◌, length, Option, Some, None, refl, sym, ap, ◌∙◌, subst, arith}
+use Rattle.std.proofs.Common.{◌≡◌, ℕ, suc, ◌+◌, ◌≤◌, Bool, true, false, List, [], ◌∷◌, ◌++◌, length, Option, Some, None, refl, ap, ◌∙◌, subst, arith}
 use Rattle.std.specs.Prelude.{filter}
 use Rattle.std.specs.List.{AllByRecursion}
 use Rattle.caf_types.specs.Form.{Form}
@@ -10,7 +10,7 @@ use Rattle.caf_mailbox.specs.Caches.{CachedLists, is_urgent, is_normal, filed, n
 use Rattle.caf_actor.specs.declared.snapshot.Snapshot.{Snapshot}
 use Rattle.caf_actor.specs.Rules.{Rules}
 use Rattle.caf_actor.specs.Actor.{CachesFit}
-use Rattle.caf_actor.specs.Snapshot.{Handled, cached, is_eligible, with_caches, next_envelope}
+use Rattle.caf_actor.specs.Snapshot.{Handled, cached, is_eligible, next_envelope}
 use Rattle.caf_actor.specs.Quitting.{all_cached}
 use Rattle.caf_actor.specs.Handling.{handle_one}
 use Rattle.caf_actor.proofs.KeptLemmas.{on_one}

@@ -1,5 +1,5 @@
 -- The drain, one envelope at a time.
-use Rattle.std.proofs.Common.{◌≡◌, ℕ, zero, suc, ◌+◌, ◌≤◌, List, [], Option, Some, None, refl, arith, ◌∙◌}
+use Rattle.std.proofs.Common.{◌≡◌, ℕ, zero, suc, ◌≤◌, List, [], Option, Some, None, refl, arith, ◌∙◌}
 use Rattle.std.specs.List.{AllByRecursion}
 use Rattle.caf_types.specs.Form.{Form}
 use Rattle.caf_message.specs.Envelope.{EnvelopeFits}
@@ -9,7 +9,7 @@ use Rattle.caf_actor.specs.Rules.{Rules}
 use Rattle.caf_actor.specs.Snapshot.{Handled, cached, next_envelope}
 use Rattle.caf_actor.specs.Handling.{handle_one}
 use Rattle.caf_actor.specs.Actor.{CachesFit}
-use Rattle.caf_actor.specs.Drain.{turn, drain_for, drain, with_batch, batch_of}
+use Rattle.caf_actor.specs.Drain.{drain_for, drain, with_batch, batch_of}
 use Rattle.caf_actor.proofs.CachedLemmas.{AllCached, left_envelope, cached_one, all_cached_one, filed_fit}
 
 module _ {S : Type 0} (rules : Rules S) where

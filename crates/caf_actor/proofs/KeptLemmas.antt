@@ -1,5 +1,5 @@
 -- What handling one envelope keeps, if each part of it does.
-use Rattle.std.proofs.Common.{◌≡◌, ℕ, ◌==◌, Bool, true, false, if◌then◌else◌, List, [], ◌∷◌, ◌++◌, Option, Some, None, bytes_eq}
+use Rattle.std.proofs.Common.{ℕ, ◌==◌, Bool, true, false, if◌then◌else◌, List, [], ◌∷◌, Option, Some, None}
 use Rattle.caf_types.specs.declared.notice.Mid.{Mid}
 use Rattle.caf_types.specs.declared.notice.Notice.{Notice}
 use Rattle.caf_types.specs.declared.notice.Notice.TheVariants as notice
@@ -18,7 +18,6 @@ use Rattle.caf_response.specs.Promised.{Promised}
 use Rattle.caf_response.specs.Holds.{take_hold}
 use Rattle.caf_observe.specs.Observers.{ObserverSets, farewell}
 use Rattle.caf_actor.specs.declared.input.Origin.{Origin}
-use Rattle.caf_actor.specs.declared.snapshot.Snapshot.{Snapshot}
 use Rattle.caf_actor.specs.PlainInput.{PlainInput}
 use Rattle.caf_actor.specs.PlainOutput.{PlainOutput}
 use Rattle.caf_actor.specs.PlainOutput as output
@@ -26,10 +25,10 @@ use Rattle.caf_actor.specs.PlainReaction.{PlainAnswer}
 use Rattle.caf_actor.specs.PlainReaction as answered
 use Rattle.caf_actor.specs.Rules.{Rules, is_input}
 use Rattle.caf_actor.specs.Snapshot.{Handled}
-use Rattle.caf_actor.specs.Sending.{post, tell, tell_many, notify, reply, may_issue, request, settle_hold, settle, link, watch, send_output, send_outputs}
+use Rattle.caf_actor.specs.Sending.{post, tell, tell_many, notify, reply, may_issue, settle_hold, send_output, send_outputs}
 use Rattle.caf_actor.specs.Answering.{origin_of, is_asked, promised_to, refuse, answer_request, answer_tell, answer}
-use Rattle.caf_actor.specs.Quitting.{shell_notice, handle_shell, shell_all, break_holds, all_cached, notify_all, emptied, say_farewell, quit_with, quit_where}
-use Rattle.caf_actor.specs.Handling.{react, give, give_content, handle_content, resolve_with, handle_response, leave_for, handle_exit, handle_notice, handle_body, handle_where, handle_one}
+use Rattle.caf_actor.specs.Quitting.{shell_notice, handle_shell, shell_all, break_holds, all_cached, notify_all, emptied, quit_with, quit_where}
+use Rattle.caf_actor.specs.Handling.{react, give, give_content, handle_content, resolve_with, leave_for, handle_exit, handle_notice, handle_body, handle_where, handle_one}
 
 module _ {S : Type 0} (rules : Rules S) (P : Handled S → Type 0)
     (on_post : (t : Handled S) (to : ℕ) (mid : Mid) (priority : Priority) (body : Plain) → P t → P (post t to mid priority body))

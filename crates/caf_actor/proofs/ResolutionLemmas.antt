@@ -1,5 +1,5 @@
 -- Each request is resolved by a value of the declared types or by an error, and what is left at rest.
-use Rattle.std.proofs.Common.{◌≡◌, ℕ, zero, suc, ◌+◌, ◌<◌, ◌==◌, ◌&&◌, ◌||◌, not, bytes_eq, Bool, true, false, if◌then◌else◌, List, [], ◌∷◌, ◌++◌, count_by, Option, Some, None, is_none, refl, sym, ap, ◌∙◌, arith}
+use Rattle.std.proofs.Common.{◌≡◌, ℕ, zero, suc, ◌==◌, ◌&&◌, ◌||◌, not, bytes_eq, Bool, true, false, if◌then◌else◌, List, [], ◌∷◌, count_by, Option, Some, None, is_none, refl, sym, arith}
 use Rattle.std.specs.List.{AllByRecursion, list_any}
 use Rattle.std.proofs.lemmas.Slice.Eq.{bytes_eq-Decides}
 use Rattle.caf_words.specs.Several.{ids_of}
@@ -13,15 +13,15 @@ use Rattle.caf_mailbox.proofs.NextLemmas.{all_append}
 use Rattle.caf_response.specs.declared.pending.Waiting.{Waiting}
 use Rattle.caf_response.specs.Pending.{WaitingRequests, resolved}
 use Rattle.caf_actor.specs.declared.snapshot.Snapshot.{Snapshot}
-use Rattle.caf_actor.specs.PlainInput.{PlainInput, Response, Failed}
+use Rattle.caf_actor.specs.PlainInput.{PlainInput}
 use Rattle.caf_actor.specs.Rules.{Rules}
 use Rattle.caf_actor.specs.Snapshot.{Handled, cached, is_eligible, next_envelope}
 use Rattle.caf_actor.specs.Quitting.{all_cached}
 use Rattle.caf_actor.specs.Handling.{handle_one, response_input, failure_input}
 use Rattle.caf_actor.specs.Drain.{with_batch}
 use Rattle.caf_actor.specs.Record.{machine_of, IsStill, sum_below}
-use Rattle.caf_actor.specs.Run.{State, Turn, Step, Take, Stop, step, opening_state}
-use Rattle.caf_actor.specs.Carriers.{Resolution, Ends, resolution_where, resolution_of, resolves, turn_resolves, drain_resolves, batch_resolves, step_resolves, run_resolves, EndsAsDeclared, carries, carriers_at, carriers_to, carriers, CarriersRest}
+use Rattle.caf_actor.specs.Run.{State, Step, Take, Stop, step, opening_state}
+use Rattle.caf_actor.specs.Carriers.{Resolution, Ends, resolution_where, resolution_of, resolves, turn_resolves, drain_resolves, step_resolves, run_resolves, EndsAsDeclared, carries, carriers_to, CarriersRest}
 
 -- ---- how requests end
 

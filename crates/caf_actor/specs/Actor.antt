@@ -3,7 +3,6 @@ use Rattle.std.specs.Prelude.{ℕ, ◌+◌, min, Bool, false, List, []}
 use Rattle.std.specs.List.{AllByRecursion}
 use Rattle.caf_types.specs.Form.{Form}
 use Rattle.std.specs.Prelude.{Option}
-use Rattle.caf_message.specs.declared.envelope.Taken.{Taken}
 use Rattle.caf_message.specs.Envelope.{EnvelopeFits}
 use Rattle.caf_mailbox.specs.Caches.{CachedLists}
 use Rattle.caf_actor.specs.declared.snapshot.Snapshot.{Snapshot}

@@ -1,5 +1,5 @@
 -- How content is answered.
-use Rattle.std.specs.Prelude.{ℕ, nat_lt, Bool, true, false, if◌then◌else◌, List}
+use Rattle.std.specs.Prelude.{ℕ, nat_lt, Bool, if◌then◌else◌, List}
 use Rattle.caf_types.specs.declared.sec.Sec.{Sec}
 use Rattle.caf_message.specs.declared.envelope.Taken.{Taken}
 use Rattle.caf_message.specs.declared.envelope.Plain.TheVariants as «plain»

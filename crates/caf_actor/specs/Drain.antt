@@ -1,5 +1,5 @@
 -- What an actor does with a batch.
-use Rattle.std.specs.Prelude.{ℕ, zero, suc, ◌+◌, ◌-◌, max, min, List, [], ◌∷◌, Option, Some, None}
+use Rattle.std.specs.Prelude.{ℕ, zero, suc, ◌+◌, ◌-◌, max, List, [], ◌∷◌, Option, Some, None}
 use Rattle.caf_message.specs.declared.envelope.Taken.{Taken}
 use Rattle.caf_mailbox.specs.Caches.{filed}
 use Rattle.caf_actor.specs.declared.snapshot.Snapshot.{Snapshot}

@@ -1,5 +1,5 @@
 -- What an actor does with one envelope that has left its list.
-use Rattle.std.specs.Prelude.{ℕ, ◌==◌, bytes_eq, Bool, true, false, if◌then◌else◌, List, Option, Some, None}
+use Rattle.std.specs.Prelude.{ℕ, ◌==◌, bytes_eq, if◌then◌else◌, List, Option, Some, None}
 use Rattle.caf_types.specs.declared.notice.Notice.{Notice}
 use Rattle.caf_types.specs.declared.notice.Notice.TheVariants as notice
 use Rattle.caf_types.specs.declared.reason.Reason.{Reason}
@@ -15,9 +15,7 @@ use Rattle.caf_response.specs.declared.pending.Waiting.{Waiting}
 use Rattle.caf_response.specs.Pending.{WaitingRequests, resolved}
 use Rattle.caf_observe.specs.Observers.{with_link, without_link, with_monitor, without_monitor}
 use Rattle.caf_actor.specs.declared.input.Origin.{Origin}
-use Rattle.caf_actor.specs.declared.snapshot.Snapshot.{Snapshot}
 use Rattle.caf_actor.specs.PlainInput.{PlainInput, Start, Stop, Content, Response, Failed, Down}
-use Rattle.caf_actor.specs.PlainReaction.{PlainReaction}
 use Rattle.caf_actor.specs.Rules.{Rules, is_input}
 use Rattle.caf_actor.specs.Snapshot.{Handled}
 use Rattle.caf_actor.specs.Sending.{send_outputs}

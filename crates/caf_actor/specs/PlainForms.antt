@@ -1,5 +1,5 @@
 -- From the types of the code to their plain forms: messages become their contents.
-use Rattle.std.specs.Prelude.{List, map}
+use Rattle.std.specs.Prelude.{map}
 use Rattle.caf_message.specs.Envelope.{plain_envelope}
 use Rattle.caf_actor.specs.declared.input.Input.{Input}
 use Rattle.caf_actor.specs.declared.input.Input.TheVariants as input

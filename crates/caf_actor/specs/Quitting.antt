@@ -1,5 +1,5 @@
 -- How an actor quits, and what is left of it.
-use Rattle.std.specs.Prelude.{ℕ, Bool, true, false, if◌then◌else◌, List, [], ◌∷◌, ◌++◌, Option, Some, None}
+use Rattle.std.specs.Prelude.{ℕ, if◌then◌else◌, List, [], ◌∷◌, ◌++◌, Option, Some, None}
 use Rattle.caf_types.specs.declared.notice.Notice.{Notice}
 use Rattle.caf_types.specs.declared.notice.Notice.TheVariants as notice
 use Rattle.caf_types.specs.declared.reason.Reason.{Reason}

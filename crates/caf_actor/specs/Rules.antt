@@ -10,7 +10,7 @@ use Rattle.caf_message.specs.Entries.{TableEntries, HasEntries, entry_shape}
 use Rattle.caf_message.specs.Fits.{Fits}
 use Rattle.caf_signature.specs.declared.interface.Signature.{Signature}
 use Rattle.caf_actor.specs.declared.input.Origin.{Origin}
-use Rattle.caf_actor.specs.PlainInput.{PlainInput, Start, Stop, Content, Response, Failed, Down, content_given}
+use Rattle.caf_actor.specs.PlainInput.{PlainInput, Stop, Content, content_given}
 use Rattle.caf_actor.specs.PlainOutput.{PlainOutput}
 use Rattle.caf_actor.specs.PlainOutput as output
 use Rattle.caf_actor.specs.PlainReaction.{PlainAnswer, PlainReaction}

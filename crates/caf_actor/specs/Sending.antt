@@ -1,5 +1,5 @@
 -- How one actor sends: each envelope has the stamp of the batch, and the next number of its receiver.
-use Rattle.std.specs.Prelude.{ℕ, ◌+◌, ◌==◌, nat_le, Bool, true, false, if◌then◌else◌, List, [], ◌∷◌, ◌++◌, Option, Some, None}
+use Rattle.std.specs.Prelude.{ℕ, ◌==◌, nat_le, Bool, false, if◌then◌else◌, List, [], ◌∷◌, ◌++◌, Option, Some, None}
 use Rattle.caf_types.specs.declared.notice.Mid.{Mid}
 use Rattle.caf_types.specs.declared.notice.Notice.{Notice}
 use Rattle.caf_types.specs.declared.notice.Notice.TheVariants as notice

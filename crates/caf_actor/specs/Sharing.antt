@@ -1,5 +1,5 @@
 -- One message for several places.
-use Rattle.std.specs.Prelude.{◌≡◌, ℕ, ◌-◌, ◌≤◌, ◌<◌, List, [], ◌∷◌, ◌++◌, length, map, replicate}
+use Rattle.std.specs.Prelude.{◌≡◌, ℕ, ◌-◌, List, [], ◌∷◌, ◌++◌, map, replicate}
 use Rattle.caf_steps.specs.declared.step.Step.{Step}
 use Rattle.caf_steps.specs.declared.step.Step.TheVariants.{Retain}
 use Rattle.caf_steps.specs.declared.reference.Reference.{Reference}

@@ -1,4 +1,4 @@
-use Rattle.std.proofs.Common.{◌≡◌, ◌∙◌, sym, ap, ℕ, List}
+use Rattle.std.proofs.Common.{◌∙◌, sym, ap, ℕ, List}
 use Rattle.std.specs.Prelude.{bytes_eq}
 use Rattle.caf_types.specs.declared.shape.TypeId.{TypeId}
 use Rattle.caf_words.specs.Several.{ids_of}

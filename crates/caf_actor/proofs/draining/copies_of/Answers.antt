@@ -1,7 +1,6 @@
-use Rattle.std.proofs.Common.{◌≡◌, ℕ, ◌+◌, List, take, map, get_or, length, sym, ap, ◌∙◌, arith, ◌<◌, ◌∷◌, ◌++◌, []}
+use Rattle.std.proofs.Common.{◌≡◌, List, map, get_or, length, sym, ap, ◌∙◌, arith, ◌<◌, ◌∷◌, ◌++◌, []}
 use Rattle.std.proofs.lemmas.List.{get_or-map, take_more, length-map}
 use Rattle.caf_message.specs.declared.envelope.Taken.{Taken}
-use Rattle.caf_message.specs.declared.envelope.Envelope.{Envelope}
 use Rattle.caf_message.specs.Envelope.{plain_envelope}
 use Rattle.caf_actor.proofs.ListLemmas.{map_set_kept}
 use Rattle.caf_actor.proofs.draining.copies_of.Goals as goal

@@ -1,4 +1,4 @@
-use Rattle.std.proofs.Common.{◌≡◌, ◌∙◌, sym, ap, not}
+use Rattle.std.proofs.Common.{◌∙◌, sym, ap, not}
 use Rattle.caf_message.specs.Content.{ids_in}
 use Rattle.caf_actor.proofs.InterfaceLemmas.{found_takes}
 use Rattle.caf_actor.proofs.eligibility.is_content_wanted.Goals as goal

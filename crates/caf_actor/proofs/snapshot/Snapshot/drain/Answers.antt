@@ -1,4 +1,4 @@
-use Rattle.std.proofs.Common.{◌≡◌, ◌∙◌, sym, ap, arith, subst}
+use Rattle.std.proofs.Common.{◌∙◌, sym, ap, arith, subst}
 use Rattle.caf_types.specs.Table.{shape_at}
 use Rattle.caf_types.specs.TypeTable.{seen}
 use Rattle.caf_message.specs.declared.envelope.Taken.{Taken}
@@ -7,7 +7,7 @@ use Rattle.caf_actor.specs.declared.snapshot.Snapshot.{Snapshot}
 use Rattle.caf_actor.specs.Snapshot.{Handled, cached}
 use Rattle.caf_actor.specs.Drain.{drain}
 use Rattle.caf_actor.proofs.CachedLemmas.{AllCached, left_envelope, all_cached_one, cached_one}
-use Rattle.caf_actor.proofs.DrainLemmas.{drain_step, drain_rest}
+use Rattle.caf_actor.proofs.DrainLemmas.{drain_step}
 use Rattle.caf_actor.proofs.snapshot.Snapshot.drain.Goals as goal
 
 pub loop-envelope-smaller : goal.loop-envelope-smaller

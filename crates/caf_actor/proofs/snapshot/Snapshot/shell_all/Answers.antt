@@ -1,4 +1,4 @@
-use Rattle.std.proofs.Common.{◌≡◌, ◌∙◌, sym, ap, arith, List, length}
+use Rattle.std.proofs.Common.{◌∙◌, sym, ap, arith, List, length}
 use Rattle.caf_message.specs.declared.envelope.Taken.{Taken}
 use Rattle.caf_message.specs.declared.envelope.Body.{Body}
 use Rattle.caf_message.specs.Envelope.{plain_envelope, plain_body}
