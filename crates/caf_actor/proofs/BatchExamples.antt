@@ -6,7 +6,7 @@ use Rattle.caf_types.specs.declared.reason.Reason.TheVariants as reason
 use Rattle.caf_types.specs.declared.sec.Sec.TheVariants as sec
 use Rattle.caf_message.specs.declared.envelope.Taken.{Taken}
 use Rattle.caf_message.specs.declared.envelope.Plain.TheVariants as «plain»
-use Rattle.caf_message.specs.Envelope.{start_envelope}
+use Rattle.caf_message.specs.Envelope.{no_request, start_envelope}
 use Rattle.caf_response.specs.Promised.{Promised}
 use Rattle.caf_response.specs.declared.pending.Mode.{Mode}
 use Rattle.caf_response.specs.declared.pending.Mode.TheVariants.{Awaited, Multiplexed}
@@ -14,7 +14,7 @@ use Rattle.caf_actor.specs.declared.snapshot.Snapshot.{Snapshot}
 use Rattle.caf_actor.specs.PlainInput.{Start, Response, Failed}
 use Rattle.caf_actor.specs.PlainPost.{PlainPost}
 use Rattle.caf_actor.specs.Drain.{batch_of}
-use Rattle.caf_actor.proofs.ExampleActors.{text, wake, number, Echo, Sleeper, Asker, Keeper, Quitter, Player, rules, new_player, asked, told, answered, noticed, replied, requested, notified, stamped}
+use Rattle.caf_actor.proofs.ExampleActors.{text, wake, number, Echo, Sleeper, Asker, Keeper, Forwarder, Quitter, Player, rules, new_player, asked, told, answered, noticed, replied, requested, notified, stamped}
 
 -- the snapshot after a batch, and what it posts
 abbrev next : Snapshot Player → List Taken → Snapshot Player
@@ -62,6 +62,22 @@ drops_content = refl
 
 pub hears_no_other_content : (next (new_player Echo 1) (told 0 (number 3) ∷ [])).behavior.heard ≡ []
 hears_no_other_content = refl
+
+-- ---- delegations
+
+-- a request goes on with its content, number and priority, and the requester isn't answered
+pub delegates_request : posts (new_player Forwarder 1) (asked 0 5 Urgent (text 97) ∷ []) ≡ record {
+  to = 2;
+  envelope = record { sender = 1; seq = 0; mid = (asked 0 5 Urgent (text 97)).mid; priority = Urgent; stamp = 2; body = «plain».Content (text 97) };
+} ∷ []
+delegates_request = refl
+
+-- other content goes on from the delegating place
+pub delegates_content : posts (new_player Forwarder 1) (told 0 (text 97) ∷ []) ≡ record {
+  to = 2;
+  envelope = record { sender = 1; seq = 0; mid = no_request 1; priority = Normal; stamp = 2; body = «plain».Content (text 97) };
+} ∷ []
+delegates_content = refl
 
 -- ---- responses
 

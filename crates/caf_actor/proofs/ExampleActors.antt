@@ -54,6 +54,8 @@ pub data Role : Type 0 where
   Asker : Mode → Role
   -- holds each request
   Keeper : Role
+  -- delegates each content to place 2
+  Forwarder : Role
   -- quits at content
   Quitter : Role
   -- at Start requests two texts of place 1, at Stop ends all other of so many places
@@ -76,6 +78,7 @@ interface_of _ = with_text
 abbrev pub peers_of : Role → List ℕ
 peers_of (Conductor n) = 1 ∷ []
 peers_of (Asker how) = 1 ∷ []
+peers_of Forwarder = 2 ∷ []
 peers_of _ = []
 
 abbrev pub is_asleep : Role → Bool
@@ -96,6 +99,7 @@ abbrev pub reaction_of : Role → PlainInput → PlainReaction
 reaction_of Echo (Content origin words) = answers (answer.Value words)
 reaction_of Sleeper (Content origin words) = answers (answer.Value words)
 reaction_of Keeper (Content origin words) = answers answer.Hold
+reaction_of Forwarder (Content origin words) = answers (answer.Delegate 2)
 reaction_of Quitter (Content origin words) = record { outputs = []; answer = answer.Hold; quit = Some reason.Failed }
 reaction_of (Asker how) Start =
     says (output.Request 1 Normal how 7 text_types (text 97) ∷ output.Request 1 Normal how 8 text_types (text 98) ∷ [])

@@ -12,7 +12,7 @@ use Rattle.caf_actor.specs.Run.{State, Turn, Step, Take, opening_state, run, May
 use Rattle.caf_actor.specs.Run as step
 use Rattle.caf_actor.specs.Merge.{batches_in, IsMerge, steps_of}
 use Rattle.caf_actor.specs.Carriers.{carriers, waits, run_resolves, Resolution, times_resolved}
-use Rattle.caf_actor.proofs.ExampleActors.{text, Role, Echo, Sleeper, Keeper, Quitter, Conductor, Player, rules, new_player, replied}
+use Rattle.caf_actor.proofs.ExampleActors.{text, Role, Echo, Sleeper, Keeper, Forwarder, Quitter, Conductor, Player, rules, new_player, replied}
 use Rattle.caf_actor.proofs.RecordExamples.{machine, three, each_place, start, batch, first_request, second_request, first_response, second_response, kill, whole}
 
 -- the batches of the record by stamp, then by place
@@ -110,6 +110,13 @@ held_carrier = refl
 
 pub held_there : length ((with_receiver Keeper (first_steps 2)).snapshot 1).holds ≡ 2
 held_there = refl
+
+-- delegated, it waits for place 2
+pub delegated_carrier : carriers 0 1 (with_receiver Forwarder (first_steps 2)) ≡ 1
+delegated_carrier = refl
+
+pub delegated_there : length ((with_receiver Forwarder (first_steps 2)).waiting 1 2) ≡ 2
+delegated_there = refl
 
 pub cached_carrier : carriers 0 1 (with_receiver Sleeper (first_steps 2)) ≡ 1
 cached_carrier = refl
