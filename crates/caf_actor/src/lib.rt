@@ -11,7 +11,8 @@
 //!
 //! The definitions are read in this order: `Rules` (what a behaviour means), `Snapshot` (an actor
 //! between two envelopes, and the next one), `Sending`, `Answering`, `Quitting`, `Handling` (one
-//! envelope), `Drain` (a batch).
+//! envelope), `Drain` (a batch); then, over the journals of all places, `Record`, `Run`, `Merge` and
+//! `Carriers`.
 #![tactic(auto)]
 
 mod actor;
@@ -23,6 +24,7 @@ mod eligibility;
 mod handling;
 mod input;
 mod journal;
+pub mod laws;
 mod numbers;
 mod output;
 mod post;
@@ -30,7 +32,6 @@ mod queue;
 mod quitting;
 mod reaction;
 mod sending;
-mod sharing;
 mod snapshot;
 
 pub use actor::Actor;
@@ -43,5 +44,4 @@ pub use numbers::Numbers;
 pub use output::Output;
 pub use post::Post;
 pub use reaction::{Answer, Reaction};
-pub use sharing::address;
 pub use snapshot::Snapshot;

@@ -8,9 +8,9 @@ ghost use Rattle.caf_actor.specs.Sending as sending;
 ghost use Rattle.caf_actor.specs.Sharing.{contents_of, tell_each};
 ghost use Rattle.caf_message.specs.declared.envelope.Plain.TheVariants as «plain»;
 
+use crate::laws::address;
 use crate::post::{Post, Posts};
 use crate::queue::Queue;
-use crate::sharing::address;
 use crate::{Output, Snapshot};
 use caf_message::{Body, Envelope, Message};
 use caf_response::{IssueFault, Mode, Reply};

@@ -1,7 +1,7 @@
 use crate::rows::Number;
 use crate::stage::{Letter, Line, Stage, What};
 use crate::{Act, Note, Reply, Scripted, Sending};
-use caf_actor::address;
+use caf_actor::laws::address;
 use caf_message::{Message, MessageFault, Replaced};
 use caf_response::Mode;
 use caf_signature::{Interface, InterfaceFault, Signature};

@@ -6,7 +6,7 @@ use Rattle.caf_steps.specs.declared.reference.Reference.{Reference}
 use Rattle.caf_steps.specs.Reference.{fresh}
 use Rattle.caf_actor.specs.Sharing.{contents_of}
 use Rattle.caf_actor.proofs.SharingLemmas.{one_more_retain, room_left}
-use Rattle.caf_actor.proofs.sharing.further_messages.Goals as goal
+use Rattle.caf_actor.proofs.laws.further_messages.Goals as goal
 
 pub returns-in_err-another-clause-kept : goal.returns-in_err-another-clause-kept
 returns-in_err-another-clause-kept c = c.another_message.ensures.kept ∙ c.loop-place.invariant.kept

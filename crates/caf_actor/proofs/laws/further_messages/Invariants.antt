@@ -1,7 +1,7 @@
 use Rattle.std.proofs.Common.{◌≡◌, ◌≤◌, ◌+◌, ◌*◌, ◌++◌, true, false, take, length, replicate}
 use Rattle.caf_steps.specs.declared.step.Step.TheVariants.{Retain}
 use Rattle.caf_actor.specs.Sharing.{contents_of, to_each, to_copies}
-use Rattle.caf_actor.proofs.sharing.further_messages.Given as goal
+use Rattle.caf_actor.proofs.laws.further_messages.Given as goal
 
 abbrev pub invariant-loop-place : goal.invariant-loop-place
 invariant-loop-place l = record {

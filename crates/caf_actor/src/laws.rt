@@ -1,9 +1,13 @@
-//! One message for several places.
+//! What the layers above rest on besides the calls of an actor: how one message goes to several
+//! places, and laws that follow from the definitions alone. A law is the contract of a function that
+//! does nothing.
 ghost use Rattle.std.specs.Prelude.{◌≡◌, ◌++◌, ◌≤◌, ◌<◌, true, false, length, map, replicate, drop, IfOk, OnOk};
 ghost use Rattle.caf_steps.specs.Reference.{fresh, retained};
 ghost use Rattle.caf_steps.specs.declared.step.Step.TheVariants.{Retain};
 ghost use Rattle.caf_actor.specs.Sharing.{contents_of, to_each, to_copies, IsShared};
+ghost use Rattle.caf_actor.specs.Carriers.{EndsAsDeclared, CarriersRest};
 
+use crate::Behavior;
 use caf_message::Message;
 use caf_types::{Memory, Places, Seq};
 use std::alloc::Global;
@@ -70,3 +74,14 @@ fn another_message(alloc: Global, message: &mut Message, shares: bool) -> Result
         message.copy(alloc)
     }
 }
+
+/// In every run, a request is resolved by a value of the types that it declared, or by an error.
+pub fn requests_end_as_declared<B: Behavior>()
+    ensures { EndsAsDeclared B.is_valid B.rules }
+{}
+
+/// Where all is at rest, each carrier of a request is a hold or a cached envelope, and no cached
+/// envelope is eligible.
+pub fn carriers_rest_in_holds_and_lists<B: Behavior>()
+    ensures { CarriersRest B.is_valid B.rules }
+{}
