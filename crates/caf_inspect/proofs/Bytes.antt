@@ -1,5 +1,5 @@
 -- Bytes by position, and as a list.
-use Rattle.std.proofs.Common.{ℕ, suc, ◌<◌, List, [], ◌∷◌, get_or, arith}
+use Rattle.std.proofs.Common.{ℕ, suc, ◌<◌, List, [], ◌∷◌, get_or}
 use Rattle.caf_words.specs.Spelling.{AreBytes}
 
 pub bytes_are : (bs : List ℕ) → ((i : ℕ) → get_or bs i 0 < 256) → AreBytes bs

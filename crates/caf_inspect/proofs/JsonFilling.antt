@@ -1,5 +1,5 @@
 -- Putting a value into an open part.
-use Rattle.std.proofs.Common.{◌≡◌, ℕ, zero, suc, ◌-◌, List, [], ◌∷◌, ◌++◌, refl, sym, arith}
+use Rattle.std.proofs.Common.{◌≡◌, ℕ, zero, suc, ◌-◌, List, [], ◌∷◌, refl, arith}
 use Rattle.serde_json.specs.Data.{Data as Json, array, no_items, object, Members, no_members}
 use Rattle.serde_json.specs.View.{items_of}
 use Rattle.caf_inspect.specs.JsonStack.{Frame, in_array, in_object, State, state, give, array_given, object_given, opened_array, opened_object}

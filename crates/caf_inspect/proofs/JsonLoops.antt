@@ -1,18 +1,15 @@
 -- Reading the parts of a value one after the other, as a loop does.
-use Rattle.std.proofs.Common.{◌≡◌, ℕ, ◌+◌, ◌<◌, ◌≤◌, List, [], ◌∷◌, ◌++◌, map, drop, get_or, length, Result, Ok, Err, refl, sym, ap, subst, ◌∙◌, arith, eq-eqb}
-use Rattle.std.proofs.lemmas.Bool.{ne_eqb}
+use Rattle.std.proofs.Common.{◌≡◌, ℕ, ◌+◌, ◌<◌, List, [], ◌∷◌, ◌++◌, drop, get_or, length, Ok, Err, refl, sym, ap, ◌∙◌}
 use Rattle.caf_types.specs.Form.{Form}
 use Rattle.caf_types.specs.Shape.{form, parts, field_view, form_step, field_step}
 use Rattle.caf_types.specs.declared.shape.Field.{Field}
 use Rattle.caf_types.specs.declared.shape.Shape.TheFolds.{fold_out-Field}
-use Rattle.serde_json.specs.Data.{Data as Json, object}
-use Rattle.serde_json.specs.View.{view, items_view, members_view}
+use Rattle.serde_json.specs.Data.{Data as Json}
+use Rattle.serde_json.specs.View.{view, items_view}
 use Rattle.serde_json.specs.Find.{get}
-use Rattle.serde_json.specs.Events.{members_len}
-use Rattle.serde_json.proofs.Views.{Entry}
 use Rattle.serde_json.specs.declared.value.Value.{Value}
-use Rattle.std.proofs.lemmas.List.{drop_more, drop_all}
-use Rattle.caf_words.specs.Datum.{Datum, Data, more, front_of, data_of}
+use Rattle.std.proofs.lemmas.List.{drop_more}
+use Rattle.caf_words.specs.Datum.{Datum, Data, more, front_of}
 use Rattle.caf_inspect.specs.JsonReading.{Read, ◌>>=◌, then_more, inside, each_read, member_read, parts_read, unjson}
 use Rattle.caf_inspect.specs.LoadAnswer.{Fails}
 use Rattle.caf_inspect.specs.declared.fault.LoadFault.{LoadFault}

@@ -1,13 +1,13 @@
 -- What the saver builds has the form of the value.
-use Rattle.std.proofs.Common.{◌≡◌, ℕ, ◌+◌, ◌<◌, ◌^◌, Bool, true, false, cond, bytes_eq, ltb, lt-ltb, pos, negsuc, ℤ, Ordering, Less, Equal, Greater, nat_cmp, List, [], ◌∷◌, ◌++◌, Option, Some, None, refl, sym, ap, subst, ◌∙◌, arith}
+use Rattle.std.proofs.Common.{◌≡◌, ℕ, ◌<◌, ◌^◌, Bool, true, false, cond, bytes_eq, lt-ltb, pos, negsuc, ℤ, Ordering, Less, Equal, Greater, nat_cmp, List, Some, refl, sym, ap, subst, ◌∙◌, arith}
 use Rattle.std.proofs.lemmas.Slice.Eq.{bytes_eq-Decides}
 use Rattle.std.proofs.lemmas.Int.{ints}
 use Rattle.std.specs.Cmp.Lexicographic.{slice_cmp}
 use Rattle.std.specs.Int.{w64}
 use Rattle.std.specs.Int.RustNames.{FitsSigned}
 use Rattle.std.specs.Ordering.{match_ordering}
-use Rattle.serde_json.specs.Data.{Data as Json, array, object as members_in, Items, no_items, item, Members, no_members, member, put}
-use Rattle.serde_json.specs.Find.{get, get_member, as_i64, of_integer}
+use Rattle.serde_json.specs.Data.{Data as Json, object as members_in, Members, no_members, member, put}
+use Rattle.serde_json.specs.Find.{get_member, as_i64, of_integer}
 use Rattle.serde_json.proofs.Views.{get_member-put, get_member-put_other}
 use Rattle.caf_types.specs.Form.{Form, unit, flag, unsigned, signed, text, bytes, place, list, object, Parts, no_parts, part}
 use Rattle.caf_words.specs.Datum.{Datum, Data, no_data, more}

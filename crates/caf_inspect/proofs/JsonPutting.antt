@@ -2,7 +2,7 @@
 use Rattle.std.proofs.Common.{◌≡◌, List, [], ◌∷◌, ◌++◌, sym, ap, ◌∙◌}
 use Rattle.serde_json.specs.Data.{Data as Json}
 use Rattle.caf_inspect.specs.JsonSaver.{frame_of, frames_of}
-use Rattle.caf_inspect.specs.JsonStack.{Frame, State, give}
+use Rattle.caf_inspect.specs.JsonStack.{State, give}
 use Rattle.caf_inspect.specs.declared.json_part.Part.{Part}
 use Rattle.caf_inspect.proofs.JsonTelling.{last_first}
 

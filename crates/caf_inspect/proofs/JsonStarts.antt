@@ -1,8 +1,7 @@
 -- How the JSON loader starts.
-use Rattle.std.proofs.Common.{◌≡◌, ℕ, List, Ok, Err}
+use Rattle.std.proofs.Common.{◌≡◌, Err}
 use Rattle.serde_json.specs.Data.{Data as Json}
 use Rattle.caf_types.specs.Form.{Form}
-use Rattle.caf_words.specs.Datum.{Datum}
 use Rattle.caf_inspect.specs.JsonForm.{HasJson}
 use Rattle.caf_inspect.specs.JsonReading.{unjson}
 use Rattle.caf_inspect.specs.LoadAnswer.{Fails, Refused}

@@ -1,7 +1,7 @@
 -- Telling and taking several values, as a loop does.
-use Rattle.std.proofs.Common.{◌≡◌, ℕ, suc, ◌+◌, ◌-◌, ◌<◌, ◌≤◌, Bool, true, false, List, [], ◌∷◌, ◌++◌, map, take, drop, get_or, length, Option, Some, None, is_some, refl, sym, ap, subst, ◌∙◌, arith}
+use Rattle.std.proofs.Common.{◌≡◌, ℕ, suc, ◌+◌, ◌-◌, ◌<◌, ◌≤◌, true, List, [], ◌∷◌, ◌++◌, map, drop, get_or, length, Some, None, is_some, refl, sym, ap, ◌∙◌, arith}
 use Rattle.std.proofs.lemmas.List.{drop_more, drop_all}
-use Rattle.caf_words.specs.Datum.{Datum, Data, no_data, more, front_of, data_of, count}
+use Rattle.caf_words.specs.Datum.{Datum, Data, more, front_of, data_of, count}
 use Rattle.caf_inspect.specs.Event.{Event, each_events}
 use Rattle.caf_inspect.specs.Taking.{Took, ◌>>=◌, done, then_more, many}
 

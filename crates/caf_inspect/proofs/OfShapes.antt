@@ -1,5 +1,5 @@
 -- What `fits` tests is that a value is of the shape.
-use Rattle.std.proofs.Common.{◌≡◌, ℕ, ◌<◌, Bool, true, false, ◌&&◌, refl}
+use Rattle.std.proofs.Common.{◌≡◌, Bool, true, false, ◌&&◌, refl}
 use borrow.Author.Tests.{ltb-true}
 use Rattle.caf_types.specs.Form as form
 use Rattle.caf_types.specs.Form.{Form, Parts, no_parts, part}

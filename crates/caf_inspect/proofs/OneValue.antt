@@ -1,5 +1,5 @@
 -- One value on both sides: what was read is what is loaded.
-use Rattle.std.proofs.Common.{◌≡◌, ℕ, List, [], ◌∷◌, Option, Some, None, is_some, true, refl, sym, ap, subst, ◌∙◌}
+use Rattle.std.proofs.Common.{◌≡◌, ℕ, List, Some, is_some, true, sym, ap, subst}
 use Rattle.caf_types.specs.Form.{Form, unit, flag, unsigned, signed, text, bytes, place, list, object, Parts, no_parts, part}
 use Rattle.caf_words.specs.Datum.{Datum, Data, no_data, more}
 use Rattle.caf_words.specs.Spelling.{Spells, EachSpells, PartsSpell}

@@ -1,5 +1,5 @@
 -- Adding the events of lists and objects to a queue.
-use Rattle.std.proofs.Common.{◌≡◌, ℕ, List, [], ◌∷◌, ◌++◌, map, length, refl, sym, ap, ◌∙◌, arith, append_assoc}
+use Rattle.std.proofs.Common.{◌≡◌, List, [], ◌∷◌, ◌++◌, map, length, refl, ap, ◌∙◌, arith, append_assoc}
 use Rattle.std.proofs.lemmas.List.{map_push}
 use Rattle.caf_types.specs.Form.{count_parts}
 use Rattle.caf_types.specs.Shape.{parts}

@@ -1,13 +1,13 @@
 -- The events of a value are taken as that value, and only they are.
-use Rattle.std.proofs.Common.{◌≡◌, ℕ, zero, suc, ◌+◌, Bool, true, false, ℤ, List, [], ◌∷◌, ◌++◌, Option, Some, None, bytes_eq, eq-eqb, refl, sym, ap, subst, ◌∙◌, append_assoc, arith}
+use Rattle.std.proofs.Common.{◌≡◌, ℕ, suc, ◌+◌, true, List, [], ◌++◌, Some, None, bytes_eq, eq-eqb, refl, sym, ap, subst, ◌∙◌, append_assoc, arith}
 use Rattle.std.proofs.lemmas.List.{append-nil}
 use Rattle.std.proofs.lemmas.Slice.Eq.{bytes_eq-Decides}
 use Rattle.caf_types.specs.Form as form
 use Rattle.caf_types.specs.Form.{Form, Parts, no_parts, part, count_parts}
-use Rattle.caf_words.specs.Datum.{Datum, a_unit, a_flag, an_unsigned, a_signed, a_text, some_bytes, a_place, a_list, an_object, Data, no_data, more, count}
+use Rattle.caf_words.specs.Datum.{Datum, Data, no_data, more, count}
 use Rattle.caf_inspect.specs.Event.{Event, events, each_events, part_events}
 use Rattle.caf_inspect.specs.OfShape.{IsOf, PartsAre, AllAre}
-use Rattle.caf_inspect.specs.Taking.{Took, ◌>>=◌, done, then_more, many, taking, taking_parts}
+use Rattle.caf_inspect.specs.Taking.{Took, done, then_more, many, taking, taking_parts}
 
 more_again : (d : Datum) (ds : Data) (xs ys rest : List Event) (one : List Event → Took Datum) (others : List Event → Took Data)
     → one (xs ++ (ys ++ rest)) ≡ Some (d, ys ++ rest) → others (ys ++ rest) ≡ Some (ds, rest) → then_more one others ((xs ++ ys) ++ rest) ≡ Some (more d ds, rest)

@@ -1,6 +1,6 @@
 -- Telling events one after the other.
-use Rattle.std.proofs.Common.{◌≡◌, List, [], ◌∷◌, ◌++◌, subst, sym, append_assoc, map, drop, get_or, length, ◌+◌, ◌<◌, ◌≤◌, ap, ◌∙◌, ℕ}
-use Rattle.std.proofs.lemmas.List.{append-nil, drop_more, drop_all}
+use Rattle.std.proofs.Common.{List, [], ◌∷◌, ◌++◌, subst, sym, append_assoc}
+use Rattle.std.proofs.lemmas.List.{append-nil}
 use Rattle.caf_inspect.specs.Event.{Event}
 use Rattle.caf_inspect.specs.Tells.{Tells}
 

@@ -1,5 +1,5 @@
 -- What the text loader answers.
-use Rattle.std.proofs.Common.{◌≡◌, ℕ, List}
+use Rattle.std.proofs.Common.{ℕ, List}
 use Rattle.caf_types.specs.Form.{Form, unit, flag, unsigned, signed, text, bytes, place, list, object, Parts, no_parts, part}
 use Rattle.caf_words.specs.Datum.{Datum, Data, no_data, more}
 use Rattle.caf_text.specs.Answer.{IsNoForm}

@@ -1,12 +1,12 @@
 -- The values that a saver was told are those of which texts are the forms.
-use Rattle.std.proofs.Common.{◌≡◌, ℕ, List, [], ◌∷◌, ◌++◌, subst, sym, ap}
+use Rattle.std.proofs.Common.{List, [], ◌∷◌, ◌++◌, subst}
 use Rattle.caf_types.specs.Form.{Form, unit, flag, unsigned, signed, text, bytes, place, list, object, Parts, no_parts, part}
 use Rattle.caf_words.specs.Datum.{Datum, Data, no_data, more}
 use Rattle.caf_text.specs.TextForm as texts
 use Rattle.caf_text.specs.TextForm.{IsValue, AreValues}
 use Rattle.caf_inspect.specs.Event.{Event, events, each_events, part_events}
 use Rattle.caf_inspect.specs.OfShape.{IsOf, PartsAre, AllAre}
-use Rattle.caf_inspect.specs.Range.{AreInRange, IsInRange}
+use Rattle.caf_inspect.specs.Range.{AreInRange}
 
 front_in : (xs ys : List Event) → AreInRange (xs ++ ys) → AreInRange xs × AreInRange ys
 front_in [] ys h = (tt, h)

@@ -1,10 +1,10 @@
 -- Words that spell one value of a type.
-use Rattle.std.proofs.Common.{◌≡◌, ℕ, ◌+◌, List, [], ◌∷◌, ◌++◌, length, map, Option, Some, None, is_some, true, refl, sym, ap, subst, ◌∙◌, arith}
+use Rattle.std.proofs.Common.{◌≡◌, ℕ, List, [], ◌∷◌, ◌++◌, map, Option, Some, None, is_some, true, refl, sym, ap, subst, ◌∙◌}
 use Rattle.std.proofs.lemmas.List.{append-nil}
 use Rattle.caf_types.specs.Form.{Form}
 use Rattle.caf_types.specs.Table.{Table, shape_at}
 use Rattle.caf_words.specs.Datum.{Datum, Data, no_data, more, data_of}
-use Rattle.caf_words.specs.Several.{TypesSpell, ShapesSpell, SeveralSpell, joined, shapes_at}
+use Rattle.caf_words.specs.Several.{TypesSpell, ShapesSpell, joined, shapes_at}
 use Rattle.caf_words.specs.Spelling.{Spells}
 use Rattle.caf_words.specs.Answer.{Faulty}
 use Rattle.caf_words.specs.declared.stop.SpellFault.{SpellFault}

@@ -1,10 +1,10 @@
 -- The words of a value's events are its spelling.
-use Rattle.std.proofs.Common.{◌≡◌, ℕ, suc, ◌+◌, ◌<◌, ◌^◌, List, [], ◌∷◌, ◌++◌, flat_map, refl, sym, ap, subst, ◌∙◌, arith}
+use Rattle.std.proofs.Common.{◌≡◌, ℕ, ◌<◌, ◌^◌, List, [], ◌∷◌, ◌++◌, refl, sym, ap, subst, ◌∙◌, arith}
 use Rattle.std.proofs.lemmas.List.{append-nil}
 use Rattle.std.proofs.lemmas.List.Concat.{flat_map-append}
 use Rattle.caf_types.specs.Form as form
 use Rattle.caf_types.specs.Form.{Form, Parts, no_parts, part, count_parts}
-use Rattle.caf_words.specs.Datum.{Datum, a_unit, a_flag, an_unsigned, a_signed, a_text, some_bytes, a_place, a_list, an_object, Data, no_data, more, count}
+use Rattle.caf_words.specs.Datum.{Datum, a_text, some_bytes, Data, no_data, more, count}
 use Rattle.caf_words.specs.Spelling.{spelling, spellings, Spells, EachSpells, PartsSpell}
 use Rattle.caf_inspect.specs.Event.{Event, events, each_events, part_events}
 use Rattle.caf_inspect.specs.OfShape.{IsOf, PartsAre, AllAre}

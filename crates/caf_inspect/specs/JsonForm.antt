@@ -1,5 +1,5 @@
 -- Which JSON values are the form of a value: one case a shape.
-use Rattle.std.specs.Prelude.{◌≡◌, ℕ, ◌<◌, ◌&&◌, ℤ, Bool, true, false, if◌then◌else◌, List, bytes_eq, Option, Some, None, option_and_then}
+use Rattle.std.specs.Prelude.{◌≡◌, ℕ, ◌<◌, ℤ, Bool, true, false, if◌then◌else◌, List, bytes_eq, Option, Some, option_and_then}
 use Rattle.hex.specs.Hex.{encode_lower}
 use Rattle.serde_json.specs.Data.{Data as Json, null, boolean, string, array, object as members_in, Items, no_items, item, Members, no_members, member}
 use Rattle.serde_json.specs.Find.{get, as_number, as_u64, as_i64}

@@ -6,7 +6,7 @@ use Rattle.serde_json.specs.Find.{of_integer}
 use Rattle.serde_json.specs.View.{items_of}
 use Rattle.caf_types.specs.Form as form
 use Rattle.caf_types.specs.Form.{Form, Parts, no_parts, part}
-use Rattle.caf_words.specs.Datum.{Datum, a_unit, a_flag, an_unsigned, a_signed, a_text, some_bytes, a_place, a_list, an_object, Data, no_data, more}
+use Rattle.caf_words.specs.Datum.{Datum, a_flag, an_unsigned, a_signed, a_text, some_bytes, a_place, a_list, an_object, Data, no_data, more}
 use Rattle.caf_inspect.specs.Event as event
 use Rattle.caf_inspect.specs.Event.{Event}
 

@@ -1,10 +1,10 @@
 -- What the types of the program hold: numbers of 64 bits, UTF-8 texts, bytes.
-use Rattle.std.specs.Prelude.{ℕ, ◌<◌, ◌^◌, List, [], ◌∷◌, length}
+use Rattle.std.specs.Prelude.{◌<◌, ◌^◌, List, [], ◌∷◌, length}
 use Rattle.std.specs.Int.{w64}
 use Rattle.std.specs.Int.RustNames.{FitsSigned}
 use Rattle.std.specs.Str.{IsUtf8}
 use Rattle.caf_words.specs.Spelling.{AreBytes}
-use Rattle.caf_inspect.specs.Event.{Event, unit, flag, unsigned, signed, text, bytes, place, list, object, field}
+use Rattle.caf_inspect.specs.Event.{Event, unsigned, signed, text, bytes, list, object}
 
 abbrev pub IsInRange : Event → Type 0
 IsInRange (unsigned n) = n < 2 ^ 64

@@ -1,15 +1,15 @@
 -- What was written is read again.
-use Rattle.std.proofs.Common.{◌≡◌, ℕ, zero, suc, ◌+◌, ◌-◌, ◌*◌, ◌/◌, ◌%◌, ◌^◌, ◌<◌, ◌≤◌, ◌==◌, ◌||◌, ◌&&◌, eqb, eqb-true, eq-eqb, ne_eqb, nat_lt, nat_le, ltb-true, ltb-false, ℤ, pos, negsuc, Bool, true, false, List, [], ◌∷◌, ◌++◌, length, length-append, slice_index, flat_map, Option, Some, None, Ok, Err, codes, decimal, IsUtf8, refl, sym, ap, subst, ◌∙◌, append_assoc, append-nil, arith}
+use Rattle.std.proofs.Common.{◌≡◌, ℕ, zero, suc, ◌+◌, ◌-◌, ◌*◌, ◌/◌, ◌%◌, ◌^◌, ◌<◌, ◌≤◌, ◌||◌, eqb, eqb-true, eq-eqb, nat_lt, ltb-true, ltb-false, ℤ, pos, negsuc, Bool, true, false, List, [], ◌∷◌, ◌++◌, length, length-append, slice_index, flat_map, Some, Ok, Err, decimal, IsUtf8, refl, sym, ap, subst, ◌∙◌, append_assoc, append-nil, arith}
 use lib.Signed.{mag}
 use Rattle.std.proofs.lemmas.Fmt.{decimal_digit}
 use Rattle.std.proofs.lemmas.Str.{is_utf8-from_IsUtf8}
 use Rattle.hex.specs.Hex.{lower_digits, encode_lower, encode_with}
 use Rattle.caf_types.specs.Form.{Form, unit, flag, unsigned, signed, text, bytes, place, list, object, Parts, no_parts, part}
-use Rattle.caf_words.specs.Datum.{Datum, a_unit, a_flag, an_unsigned, a_signed, a_text, some_bytes, a_place, a_list, an_object, Data, no_data, more}
-use Rattle.caf_words.specs.Reading.{Got, ◌>>=◌}
+use Rattle.caf_words.specs.Datum.{Datum, a_flag, a_signed, a_text, some_bytes, a_list, an_object, Data, no_data, more}
+use Rattle.caf_words.specs.Reading.{Got}
 use Rattle.caf_words.specs.Spelling.{AreBytes}
 use Rattle.caf_text.specs.TextForm.{comma, colon, escape, is_escaped, joined, text_form, fields_text, IsValue, AreValues, AllAre}
-use Rattle.caf_text.specs.TextReading.{literal, choice, number, nonzero, is_digit, signed_at, unquoted, digit_value, pair_value, separator, after_value, values, values_or_none, reading, field_at, fields_at}
+use Rattle.caf_text.specs.TextReading.{literal, number, nonzero, is_digit, signed_at, unquoted, digit_value, pair_value, values, values_or_none, reading, field_at, fields_at}
 use Rattle.caf_text.specs.declared.quoted.Mark.TheVariants as marks
 use Rattle.caf_text.proofs.Digits.{digit_back, sixteen}
 use Rattle.caf_text.proofs.Numbers.{NoDigit, nonzero_again}

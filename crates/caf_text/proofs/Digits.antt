@@ -1,5 +1,5 @@
 -- Hexadecimal digits are written and read back.
-use Rattle.std.proofs.Common.{◌≡◌, ℕ, zero, suc, ◌+◌, ◌*◌, ◌-◌, ◌/◌, ◌%◌, ◌<◌, ◌≤◌, ◌&&◌, nat_le, cond, Bool, true, false, List, [], ◌∷◌, slice_index, Option, Some, None, refl, sym, ap, subst, ◌∙◌, arith}
+use Rattle.std.proofs.Common.{◌≡◌, ℕ, zero, suc, ◌+◌, ◌*◌, ◌-◌, ◌<◌, ◌≤◌, ◌&&◌, nat_le, cond, Bool, true, false, slice_index, Option, Some, None, refl, sym, ◌∙◌, arith}
 use borrow.Author.Tests.{leb-true}
 use Rattle.hex.specs.Hex.{lower_digits}
 use Rattle.caf_text.specs.TextReading.{digit_value, pair_value}

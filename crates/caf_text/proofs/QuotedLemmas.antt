@@ -1,21 +1,20 @@
 -- What stands between quotes: how far its reader goes.
-use Rattle.std.proofs.Common.{◌≡◌, ℕ, suc, ◌+◌, ◌*◌, ◌/◌, ◌%◌, ◌<◌, ◌≤◌, ◌==◌, ◌||◌, eqb, eqb-true, ne_eqb, nat_lt, ltb-true, ltb-false, cond, Bool, true, false, true≢false, ◌⊎◌, inl, inr, List, [], ◌∷◌, ◌++◌, length, slice_index, flat_map, drop, Option, Some, None, Ok, Err, IsUtf8, refl, sym, ap, subst, ◌∙◌, append_assoc, append-nil, arith}
+use Rattle.std.proofs.Common.{◌≡◌, ℕ, ◌+◌, ◌*◌, ◌/◌, ◌%◌, ◌<◌, eqb, eqb-true, nat_lt, ltb-true, Bool, true, false, true≢false, ◌⊎◌, inl, inr, List, [], ◌∷◌, ◌++◌, length, slice_index, flat_map, drop, Option, Some, None, Ok, Err, IsUtf8, refl, sym, ap, subst, ◌∙◌, append_assoc, append-nil, arith}
 use Rattle.std.specs.Str.{is_utf8}
-use Rattle.std.proofs.lemmas.Str.{IsUtf8-append, IsUtf8-from_ascii, IsUtf8-nil, is_utf8-from_IsUtf8, IsUtf8-from_is_utf8}
+use Rattle.std.proofs.lemmas.Str.{IsUtf8-append, IsUtf8-nil, is_utf8-from_IsUtf8, IsUtf8-from_is_utf8}
 use Rattle.hex.specs.Hex.{lower_digits, encode_lower, encode_with}
 use Rattle.caf_types.specs.Form.{text, bytes}
-use Rattle.caf_words.specs.Datum.{Datum, a_text, some_bytes}
-use Rattle.caf_words.specs.Reading.{Got, ◌>>=◌}
+use Rattle.caf_words.specs.Datum.{a_text, some_bytes}
+use Rattle.caf_words.specs.Reading.{◌>>=◌}
 use Rattle.caf_words.specs.Spelling.{AreBytes}
 use Rattle.caf_text.specs.TextForm.{escape, is_escaped, text_form, IsValue}
-use Rattle.caf_text.specs.TextReading.{literal, move, moved, unquoted, digit_value, pair_value, half_move, pair_move, digit_move, text_at, some_bytes_at, reading}
+use Rattle.caf_text.specs.TextReading.{move, unquoted, digit_value, pair_value, reading}
 use Rattle.caf_text.specs.declared.quoted.Mark.{Mark}
 use Rattle.caf_text.specs.declared.quoted.Mark.TheVariants as marks
-use Rattle.caf_text.specs.declared.quoted.Move.{Move}
 use Rattle.caf_text.specs.declared.quoted.Move.TheVariants as moves
-use Rattle.caf_text.proofs.Digits.{digit_is, pair_is, digit_back}
+use Rattle.caf_text.proofs.Digits.{digit_is, pair_is}
 use Rattle.caf_text.proofs.Utf8.{AsciiFirst, front_valid, after_ascii, low_valid, plain_escape, escaped_is, unescaped}
-use Rattle.caf_text.proofs.Stops.{ends, Good, StopsAt, Stops, heads, no_cons, shifted, as_stops, literal_then}
+use Rattle.caf_text.proofs.Stops.{ends, Stops, heads, no_cons, as_stops, literal_then}
 
 -- ---- any content
 

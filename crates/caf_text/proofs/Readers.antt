@@ -1,13 +1,11 @@
 -- How far the reader of each shape goes.
-use Rattle.std.proofs.Common.{◌≡◌, ℕ, suc, ◌+◌, ◌-◌, ◌^◌, ◌<◌, ◌≤◌, ℤ, pos, negsuc, Bool, true, false, List, [], ◌∷◌, ◌++◌, length, drop, Option, Some, None, Ok, Err, codes, decimal, IsUtf8, refl, sym, ap, subst, ◌∙◌, append_assoc, arith}
-use Rattle.std.specs.Int.{w64}
-use Rattle.std.specs.Int.RustNames.{FitsSigned}
+use Rattle.std.proofs.Common.{◌≡◌, ℕ, suc, ◌-◌, ◌^◌, ◌<◌, ◌≤◌, pos, negsuc, true, false, List, [], ◌∷◌, ◌++◌, drop, Ok, codes, decimal, refl, sym, ap, subst, ◌∙◌, append_assoc, arith}
 use Rattle.caf_types.specs.Form.{Form, unit, flag, unsigned, signed, text, bytes, place, list, object, Parts, no_parts, part}
 use Rattle.caf_words.specs.Datum.{Datum, a_unit, a_flag, an_unsigned, a_signed, a_text, some_bytes, a_place, a_list, an_object, Data, no_data, more}
-use Rattle.caf_words.specs.Reading.{Got, ◌>>=◌, then_more}
+use Rattle.caf_words.specs.Reading.{◌>>=◌}
 use Rattle.caf_text.specs.TextForm.{comma, colon, joined, text_form, scalar_text, fields_text, IsValue, AreValues, AllAre}
-use Rattle.caf_text.specs.TextReading.{literal, word, choice, number, nonzero, values_or_none, reading, field_at, fields_at}
-use Rattle.caf_text.proofs.Stops.{ends, Good, StopsAt, Stops, pure_stops, literal_stops, then_stops, make_stops, choice_stops, as_stops, literal_then}
+use Rattle.caf_text.specs.TextReading.{literal, word, number, nonzero, values_or_none, reading, field_at, fields_at}
+use Rattle.caf_text.proofs.Stops.{Stops, pure_stops, literal_stops, then_stops, make_stops, choice_stops, as_stops, literal_then}
 use Rattle.std.proofs.lemmas.Str.{IsUtf8-nil}
 use Rattle.caf_text.proofs.Lists.{items_stops}
 use Rattle.caf_text.proofs.QuotedLemmas.{text_stops, bytes_stops}

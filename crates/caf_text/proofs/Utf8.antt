@@ -1,11 +1,11 @@
 -- Where a text stands in an input in UTF-8, and how it was escaped, leaves it in UTF-8.
-use Rattle.std.proofs.Common.{◌≡◌, ℕ, zero, suc, ◌+◌, ◌<◌, ◌≤◌, ◌==◌, ◌||◌, eqb, ne_eqb, eqb-true, nat_lt, ltb-true, ltb-false, cond, Bool, true, false, List, [], ◌∷◌, ◌++◌, length, length-append, take, drop, get_or, slice_index, flat_map, IsUtf8, IsAscii, IsCharBoundary, true≢false, ◌/◌, ◌%◌, refl, sym, ap, subst, ◌∙◌, append_assoc, append-nil, arith}
+use Rattle.std.proofs.Common.{◌≡◌, ℕ, zero, suc, ◌+◌, ◌<◌, ◌≤◌, ◌||◌, eqb, ne_eqb, eqb-true, nat_lt, ltb-true, ltb-false, Bool, true, false, List, [], ◌∷◌, ◌++◌, length, length-append, take, drop, get_or, slice_index, flat_map, IsUtf8, IsCharBoundary, true≢false, ◌/◌, ◌%◌, refl, sym, ap, subst, ◌∙◌, append_assoc, arith}
 use Rattle.std.proofs.lemmas.Str.{IsUtf8-append, IsUtf8-from_ascii, IsUtf8-take, IsUtf8-drop, IsUtf8-nil, IsCharBoundary-after_ascii}
 use Rattle.std.proofs.lemmas.Bool.Decides.{nat_tests}
 use Rattle.hex.specs.Hex.{lower_digits}
 use Rattle.caf_text.specs.TextForm.{escape, is_escaped}
 use Rattle.caf_text.proofs.Digits.{sixteen}
-use Rattle.caf_text.proofs.Stops.{heads, no_cons}
+use Rattle.caf_text.proofs.Stops.{heads}
 
 -- ---- parts of a list
 

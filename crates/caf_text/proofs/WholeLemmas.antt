@@ -1,5 +1,5 @@
 -- Reading a whole input is exact, and stops at the end of its longest front.
-use Rattle.std.proofs.Common.{◌≡◌, ℕ, suc, ◌+◌, ◌-◌, ◌<◌, ◌≤◌, List, [], ◌∷◌, ◌++◌, length, length-append, take, drop, Option, Some, None, Ok, Err, IsUtf8, refl, sym, ap, subst, ◌∙◌, append_assoc, append-nil, arith}
+use Rattle.std.proofs.Common.{◌≡◌, ℕ, suc, ◌+◌, ◌-◌, ◌<◌, ◌≤◌, List, [], ◌∷◌, ◌++◌, length, length-append, take, Option, Some, None, Ok, Err, IsUtf8, refl, sym, ap, subst, ◌∙◌, append_assoc, append-nil, arith}
 use Rattle.caf_types.specs.Form.{Form}
 use Rattle.caf_words.specs.Datum.{Datum}
 use Rattle.caf_words.specs.Reading.{Got, ◌>>=◌}
@@ -9,7 +9,7 @@ use Rattle.caf_text.specs.TextReading.{reading, nothing_left, untext}
 use Rattle.caf_text.proofs.Again.{reading_again}
 use Rattle.caf_text.proofs.Numbers.{NoDigit}
 use Rattle.caf_text.proofs.Readers.{reading_stops}
-use Rattle.caf_text.proofs.Stops.{ends, Good, StopsAt, Stops, heads, no_cons}
+use Rattle.caf_text.proofs.Stops.{ends, Good, StopsAt, no_cons}
 
 nothing_behind : NoDigit []
 nothing_behind c r e = absurd (no_cons e)

@@ -1,5 +1,4 @@
-use Rattle.std.proofs.Common.{◌≡◌, ◌∷◌, ◌++◌, ◌+◌, [], map, drop, sym, ap, ◌∙◌, Some, Ok, subst, refl, length}
-use Rattle.caf_types.specs.declared.shape.Field.{Field}
+use Rattle.std.proofs.Common.{◌≡◌, ◌+◌, map, drop, sym, ap, Some, subst}
 use Rattle.std.proofs.lemmas.List.{map_push}
 use Rattle.caf_types.specs.Shape.{form, parts}
 use Rattle.caf_words.specs.Value.{datum}

@@ -1,8 +1,7 @@
-use Rattle.std.proofs.Common.{◌≡◌, ◌+◌, ◌-◌, ◌∷◌, ◌++◌, [], map, refl, rules, List, sym, ap, ◌∙◌}
+use Rattle.std.proofs.Common.{◌≡◌, ◌+◌, ◌-◌, ◌∷◌, ◌++◌, [], map, ap, ◌∙◌}
 use Rattle.std.proofs.lemmas.List.{map_push}
-use Rattle.caf_inspect.specs.Taking.{Took, taking, many, then_more}
-use Rattle.caf_inspect.specs.Event.{Event}
-use Rattle.caf_inspect.proofs.Loops.{with_front, goes_on, many_more, some_one, is_done}
+use Rattle.caf_inspect.specs.Taking.{taking, many}
+use Rattle.caf_inspect.proofs.Loops.{goes_on, many_more, some_one, is_done}
 use Rattle.caf_inspect.proofs.lists.load_each.Goals as goal
 
 pub load-requires : goal.load-requires

@@ -1,7 +1,4 @@
-use Rattle.std.proofs.Common.{map, drop, subst, sym, List, arith}
-use Rattle.caf_words.specs.Datum.{data_of}
-use Rattle.caf_inspect.specs.Event.{Event, events, each_events}
-use Rattle.caf_inspect.specs.Tells.{Tells}
+use Rattle.caf_inspect.specs.Event.{events}
 use Rattle.caf_inspect.proofs.Telling.{tells_append, tells_none}
 use Rattle.caf_inspect.proofs.Loops.{each_more, each_done}
 use Rattle.caf_inspect.proofs.lists.save_each.Goals as goal

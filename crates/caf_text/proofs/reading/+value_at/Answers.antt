@@ -1,4 +1,4 @@
-use Rattle.std.proofs.Common.{◌≡◌, map, length, ◌+◌, ◌-◌, ◌∙◌, ap, drop, List, ℕ, Ok}
+use Rattle.std.proofs.Common.{map, length, ◌+◌, ◌-◌, ◌∙◌, ap, drop, List, ℕ, Ok}
 use Rattle.std.proofs.lemmas.List.{map_push}
 use Rattle.std.proofs.lemmas.Result.{err_from_is_err_and}
 use Rattle.caf_types.specs.Shape.{form, parts}

@@ -1,4 +1,4 @@
-use Rattle.std.proofs.Common.{◌∙◌, sym, subst}
+use Rattle.std.proofs.Common.{sym, subst}
 use Rattle.serde_json.specs.View.{view}
 use Rattle.caf_inspect.specs.JsonForm.{HasJson}
 use Rattle.caf_inspect.specs.JsonSaver.{frames_of}

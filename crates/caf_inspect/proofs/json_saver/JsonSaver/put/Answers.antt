@@ -1,7 +1,7 @@
-use Rattle.std.proofs.Common.{◌≡◌, ◌++◌, ◌∷◌, [], ◌∙◌, sym, ap, List}
+use Rattle.std.proofs.Common.{◌∙◌, sym, ap}
 use Rattle.serde_json.specs.View.{view}
 use Rattle.caf_inspect.specs.JsonSaver.{frames_of, filled_state}
-use Rattle.caf_inspect.specs.JsonStack.{State, state, give}
+use Rattle.caf_inspect.specs.JsonStack.{state}
 use Rattle.caf_inspect.proofs.JsonPutting.{into_last}
 use Rattle.caf_inspect.proofs.json_saver.JsonSaver.put.Goals as goal
 

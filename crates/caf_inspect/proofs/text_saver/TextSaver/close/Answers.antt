@@ -1,4 +1,4 @@
-use Rattle.std.proofs.Common.{◌≡◌, ◌∷◌, ◌-◌, ◌<◌, ◌∙◌, sym, ap, string_bytes, arith}
+use Rattle.std.proofs.Common.{◌∷◌, ◌-◌, ◌∙◌, sym, ap, string_bytes, arith}
 use Rattle.caf_inspect.specs.TextSaver.{frame_of, frames_of}
 use Rattle.caf_inspect.specs.TextStack.{give, in_list, in_object, state}
 use Rattle.caf_inspect.proofs.TextFilling.{given_whole, given_open}

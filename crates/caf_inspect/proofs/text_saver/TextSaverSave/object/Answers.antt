@@ -1,6 +1,4 @@
-use Rattle.std.proofs.Common.{◌∙◌, ◌++◌, ap, subst, string_bytes, length, ◌<◌, ◌^◌, arith}
-use Rattle.caf_inspect.specs.TextSaver.{frames_of}
-use Rattle.caf_inspect.specs.TextStack.{give, state}
+use Rattle.std.proofs.Common.{arith}
 use Rattle.caf_inspect.proofs.TextTelling.{text_told}
 use Rattle.caf_inspect.proofs.text_saver.TextSaverSave.object.Goals as goal
 

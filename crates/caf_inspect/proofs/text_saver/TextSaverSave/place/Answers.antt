@@ -1,6 +1,6 @@
-use Rattle.std.proofs.Common.{◌∙◌, ◌++◌, ap, subst, string_bytes, length, ◌<◌, ◌^◌, arith}
+use Rattle.std.proofs.Common.{◌∙◌, ap}
 use Rattle.caf_inspect.specs.TextSaver.{frames_of}
-use Rattle.caf_inspect.specs.TextStack.{give, state}
+use Rattle.caf_inspect.specs.TextStack.{give}
 use Rattle.caf_inspect.proofs.TextTelling.{text_told}
 use Rattle.caf_inspect.proofs.text_saver.TextSaverSave.place.Goals as goal
 
