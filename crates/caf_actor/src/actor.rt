@@ -67,7 +67,7 @@ impl<B: Behavior> Actor<B> {
         requires stamps { AllByRecursion (λ (e : Taken). e.stamp < 2 ^ 40) (map plain_envelope batch) }
         requires entries { HasEntries (seen table.now) B.entries }
         requires fits { AllByRecursion (EnvelopeFits (shape_at (seen table.now))) (map plain_envelope batch) }
-        requires lists_fit { CachesFit (shape_at (seen table.now)) self.old.snapshot.caches }
+        requires lists_fit { self.old.is_broken ≡ false → CachesFit (shape_at (seen table.now)) self.old.snapshot.caches }
         ensures posts { IfOk result (λ posts. map plain_post posts ≡ (batch_of B.rules self.old.snapshot (map plain_envelope batch)).1) }
         ensures snapshot { OnOk result (self.new.snapshot ≡ (batch_of B.rules self.old.snapshot (map plain_envelope batch)).0) }
         ensures journal { OnOk result (self.new.journal ≡ self.old.journal ++ record { stamp = stamp_due self.old.snapshot.stamp (map plain_envelope batch); taken = map plain_envelope batch } ∷ []) }

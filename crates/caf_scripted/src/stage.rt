@@ -5,11 +5,14 @@ ghost use Rattle.caf_types.specs.Table.{built_in, shape_at};
 ghost use Rattle.caf_message.specs.Envelope.{plain_envelope, plain_body, EnvelopeFits, BodyFits};
 ghost use Rattle.caf_message.specs.declared.envelope.Taken.{Taken};
 
-use crate::Scripted;
 use crate::rows::{Nothing, Number};
+use crate::{Act, Note, Scripted};
 use caf_actor::{Actor, Post};
 use caf_message::{Batch, Body, Envelope, Message, MessageFault};
-use caf_types::{Memory, Mid, Notice, Priority, Sec, Seq, TypeTable};
+use caf_signature::{Interface, Signature};
+use caf_types::{
+    Memory, Mid, Notice, Places, Priority, Reason, Sec, Seq, TypeId, TypeIds, TypeTable,
+};
 use std::alloc::Global;
 use std::marker::Model;
 
@@ -22,7 +25,7 @@ pub(crate) enum What {
     Nothing,
     Failure(Sec),
     Told(Notice),
-    /// Content of other types, or none that could be read.
+    /// Content of other types.
     Other,
 }
 
@@ -34,6 +37,8 @@ pub(crate) struct Letter {
     pub(crate) priority: Priority,
     pub(crate) stamp: u32,
     pub(crate) what: What,
+    /// The number of the batch that it comes in, below 8.
+    pub(crate) batch: u8,
 }
 
 /// What the actor sent.
@@ -47,9 +52,29 @@ pub(crate) struct Line {
     pub(crate) what: What,
 }
 
+/// What the actor of place 1 is.
+#[derive(Clone, Copy, Debug)]
+pub(crate) struct Part<'a> {
+    pub(crate) peers: &'a [u32],
+    pub(crate) acts: &'a [Act],
+    pub(crate) is_asleep: bool,
+    /// Whether its interface has [unit] to [unit] beside [unsigned] to [unsigned].
+    pub(crate) takes_unit: bool,
+}
+
+/// What came of a play.
+#[derive(Debug, Drop)]
+pub(crate) struct Played {
+    pub(crate) lines: Seq<Line>,
+    pub(crate) notes: Seq<Note>,
+    pub(crate) handled: u64,
+    pub(crate) batches: u64,
+    pub(crate) quit: Option<Reason>,
+}
+
 /// An actor and the table of the built-in types.
 #[derive(Drop)]
-pub(crate) struct Stage {
+struct Stage {
     alloc: Global,
     table: TypeTable,
     actor: Actor<Scripted>,
@@ -69,13 +94,29 @@ impl Model for Stage {
     ghost invariant = { λ stage. (seen stage.table ≡ built_in) × CachesFit (shape_at built_in) stage.actor.snapshot.caches };
 }
 
+/// The actor takes the letters, batch by batch.
+pub(crate) fn play(alloc: Global, part: Part, letters: &[Letter]) -> Result<Played, MessageFault> {
+    let mut stage = Stage::new(alloc, part)?;
+    let mut lines = Seq::new(alloc);
+    for batch in 0..8 {
+        stage.take(batch, letters, &mut lines)?;
+    }
+    Ok(stage.played(lines)?)
+}
+
 impl Stage {
-    pub(crate) fn new(alloc: Global, scripted: Scripted) -> Result<Stage, Memory>
-        requires { scripted.place < 256 }
-    {
+    fn new(alloc: Global, part: Part) -> Result<Stage, Memory> {
         let table = TypeTable::new(alloc)?;
-        let place = scripted.place;
-        let actor = Actor::new(alloc, place, scripted, 0)?;
+        let scripted = Scripted {
+            place: 1,
+            peers: Places::of_vec(Vec::from_slice(alloc, part.peers)?),
+            interface: interface(alloc, part.takes_unit)?,
+            acts: Seq::of_vec(Vec::from_slice(alloc, part.acts)?),
+            done: 0,
+            is_asleep: part.is_asleep,
+            notes: Seq::new(alloc),
+        };
+        let actor = Actor::new(alloc, 1, scripted, 0)?;
         Ok(Stage {
             alloc,
             table,
@@ -83,29 +124,73 @@ impl Stage {
         })
     }
 
-    pub(crate) fn actor(&self) -> &Actor<Scripted> {
-        &self.actor
-    }
-
-    /// The actor takes the letters as one batch. They are numbered from 0.
-    pub(crate) fn take(&mut self, letters: &[Letter]) -> Result<Seq<Line>, MessageFault> {
-        let batch = batch_of(self.alloc, letters)?;
+    /// The actor takes the letters of that batch.
+    fn take(
+        &mut self,
+        number: u8,
+        letters: &[Letter],
+        lines: &mut Seq<Line>,
+    ) -> Result<(), MessageFault> {
+        let batch = batch_of(self.alloc, number, letters)?;
         if batch.as_slice().is_empty() || self.actor.stamp() >= 1 << 40 {
-            return Ok(Seq::new(self.alloc));
+            return Ok(());
         }
         let posts = self.actor.batch(self.alloc, &self.table, batch)?;
-        lines_of(self.alloc, posts)
+        add_lines(self.alloc, lines, posts)?;
+        Ok(())
+    }
+
+    fn played(self, lines: Seq<Line>) -> Result<Played, Memory> {
+        let behavior = self.actor.behavior();
+        let notes = Vec::from_slice(self.alloc, behavior.notes.as_slice())?;
+        Ok(Played {
+            lines,
+            notes: Seq::of_vec(notes),
+            handled: self.actor.handled(),
+            batches: self.actor.journal().len(),
+            quit: self.actor.quit(),
+        })
     }
 }
 
-fn batch_of(alloc: Global, letters: &[Letter]) -> Result<Batch, MessageFault>
+/// [unsigned] to [unsigned], and [unit] to [unit] where `takes_unit`.
+fn interface(alloc: Global, takes_unit: bool) -> Result<Interface, Memory> {
+    let mut signatures = Seq::new(alloc);
+    signatures.push(signature(alloc, 2)?)?;
+    if takes_unit {
+        signatures.push(signature(alloc, 0)?)?;
+    }
+    match Interface::new(alloc, signatures) {
+        Ok(interface) => Ok(interface),
+        Err(_) => Err(Memory),
+    }
+}
+
+/// The type as its own result.
+fn signature(alloc: Global, id: u16) -> Result<Signature, Memory> {
+    Ok(Signature {
+        input: types(alloc, id)?,
+        result: types(alloc, id)?,
+    })
+}
+
+fn types(alloc: Global, id: u16) -> Result<TypeIds, Memory> {
+    let mut types = TypeIds::new(alloc);
+    types.push(TypeId(id))?;
+    Ok(types)
+}
+
+/// The letters of that batch, each with its position as its number.
+fn batch_of(alloc: Global, number: u8, letters: &[Letter]) -> Result<Batch, MessageFault>
     ensures fits { IfOk result (λ batch. AllByRecursion (EnvelopeFits (shape_at built_in)) (map plain_envelope batch)) }
     ensures stamps { IfOk result (λ batch. AllByRecursion (λ (e : Taken). e.stamp < 1099511627776) (map plain_envelope batch)) }
 {
     let mut batch = Batch::new(alloc);
     for i in 0..letters.len() {
-        let envelope = envelope_of(alloc, i as u64, &letters[i])?;
-        batch.push(envelope)?;
+        if letters[i].batch == number {
+            let envelope = envelope_of(alloc, i as u64, &letters[i])?;
+            batch.push(envelope)?;
+        }
     }
     Ok(batch)
 }
@@ -136,12 +221,11 @@ fn body_of(alloc: Global, what: What) -> Result<Body, MessageFault>
     }
 }
 
-fn lines_of(alloc: Global, posts: Seq<Post>) -> Result<Seq<Line>, MessageFault> {
-    let mut lines = Seq::new(alloc);
+fn add_lines(alloc: Global, lines: &mut Seq<Line>, posts: Seq<Post>) -> Result<(), Memory> {
     for post in posts.into_vec() {
         lines.push(line_of(alloc, post)?)?;
     }
-    Ok(lines)
+    Ok(())
 }
 
 fn line_of(alloc: Global, post: Post) -> Result<Line, Memory> {

@@ -18,7 +18,7 @@ drain-requires-clause-fits g c =
     let shape_of = shape_at (seen c.args.table.now) in
     let fits = subst (λ (es : List Taken). AllByRecursion (EnvelopeFits shape_of) es) (sym c.in_ok-batch.ensures.kept) c.requires.fits in
     subst (λ (s : Snapshot g.row.B.Denot). CachesFit shape_of s.caches) (sym c.in_ok-file.ensures)
-    (filed_fit shape_of c.self.inside.snapshot.caches (map plain_envelope c.in_ok-batch.batch) (subst (λ (lists : CachedLists). CachesFit shape_of lists) (ap (λ (a : ActorState g.row.B.Denot). a.snapshot.caches) (sym c.self.view_is)) c.requires.lists_fit) fits)
+    (filed_fit shape_of c.self.inside.snapshot.caches (map plain_envelope c.in_ok-batch.batch) (subst (λ (lists : CachedLists). CachesFit shape_of lists) (ap (λ (a : ActorState g.row.B.Denot). a.snapshot.caches) (sym c.self.view_is)) (c.requires.lists_fit (ap (λ (a : ActorState g.row.B.Denot). a.is_broken) (sym c.self.view_is) ∙ c.if-self.false))) fits)
 
 pub overflow_sub-left : goal.overflow_sub-left
 overflow_sub-left g c =
