@@ -1,7 +1,8 @@
 -- What holds of all envelopes of a batch.
 use Rattle.std.proofs.Common.{◌≡◌, ◌∙◌, List, [], ◌∷◌, ◌++◌, map, None, Some, sym}
 use Rattle.std.specs.FinMap as finite
-use Rattle.caf_types.specs.Table.{Table, Named}
+use Rattle.std.specs.Ordering.{nat_cmp}
+use Rattle.caf_types.specs.Table.{Table}
 use Rattle.caf_message.specs.Entries.{HasEntries}
 use Rattle.std.specs.List.{AllByRecursion}
 use Rattle.caf_message.specs.declared.envelope.Taken.{Taken}
@@ -14,4 +15,4 @@ all_push P (x ∷ xs) e h k = (h.0, all_push P xs e h.1 k)
 
 -- no entries are missing where none are needed
 pub has_none : (t : Table) → HasEntries t finite.empty
-has_none t id n q = let no : ◌≡◌ {A = _} None (Some n) = sym (finite.get-empty id) ∙ q in cc
+has_none t id n q = let no : ◌≡◌ {A = _} None (Some n) = sym (finite.get-empty nat_cmp id) ∙ q in cc

@@ -1,5 +1,3 @@
-use Rattle.std.proofs.Common.{◌≡◌, ◌∙◌, ℕ, None, Some, sym}
-use Rattle.std.specs.FinMap.{get-empty}
 use Rattle.caf_types.specs.Table.{built_in, shape_at}
 use Rattle.caf_types.specs.TypeTable.{seen}
 use Rattle.caf_scripted.proofs.BatchLemmas.{has_none}
