@@ -1,12 +1,11 @@
 -- The laws of behaviours, for scripted ones.
-use Rattle.std.specs.Prelude.{◌≡◌, ◌≢◌, ℕ, ◌+◌, ◌<◌, ◌≤◌, nat_le, bytes_eq, if◌then◌else◌, Bool, true, false, List, [], ◌∷◌, ◌++◌, length, Option, Some, None, refl, find, Contains, IsTrue}
+use Rattle.std.specs.Prelude.{◌≡◌, ℕ, ◌+◌, ◌≤◌, nat_le, bytes_eq, if◌then◌else◌, Bool, true, false, List, [], ◌∷◌, ◌++◌, length, Option, Some, None, refl, Contains}
 use Rattle.std.proofs.Common.{suc, ap, sym, ◌∙◌, arith}
 use Rattle.std.proofs.lemmas.Bool.{lt-ltb, leb-true}
 use Rattle.std.proofs.lemmas.Slice.Eq.{bytes_eq-Decides}
 use Rattle.std.specs.List.{AllByRecursion}
-use Rattle.std.specs.FinMap as finite
 use Rattle.caf_types.specs.Form.{Form}
-use Rattle.caf_types.specs.Table.{Table, shape_at}
+use Rattle.caf_types.specs.Table.{shape_at}
 use Rattle.caf_types.specs.declared.sec.Sec.TheVariants as sec
 use Rattle.caf_words.specs.Several.{ids_of}
 use Rattle.caf_message.specs.Content.{ids_in}
@@ -19,7 +18,7 @@ use Rattle.caf_actor.specs.PlainInput.{PlainInput, Start, Stop, Content, Respons
 use Rattle.caf_actor.specs.PlainOutput.{PlainOutput}
 use Rattle.caf_actor.specs.PlainReaction.{PlainAnswer, PlainReaction}
 use Rattle.caf_actor.specs.PlainReaction as answer
-use Rattle.caf_actor.specs.Rules.{Rules, MayBeGiven, InputFits, OutputFits, AnswerFits, ReactionFits, HasTargets, IsTarget, IsSameActor, signature_for, declared_for, takes_ids, is_input, output_targets, answer_targets, outputs_count, StaysValid, StaysSameActor, SkipsInputs, FitsItsTable, FitsItsEntries, AnswersRequests, AnswersAsDeclared, SendsToPeers, SendsFew, StopsWithExits}
+use Rattle.caf_actor.specs.Rules.{InputFits, OutputFits, AnswerFits, ReactionFits, IsTarget, signature_for, declared_for, is_input, output_targets, answer_targets, outputs_count, StaysValid, StaysSameActor, SkipsInputs, FitsItsTable, FitsItsEntries, AnswersRequests, AnswersAsDeclared, SendsToPeers, SendsFew, StopsWithExits}
 use Rattle.caf_actor.proofs.InterfaceLemmas.{found_takes}
 use Rattle.caf_scripted.specs.declared.act.Act.{Act}
 use Rattle.caf_scripted.specs.declared.act.Sending.{Sending}
@@ -27,7 +26,7 @@ use Rattle.caf_scripted.specs.declared.act.Sending.TheVariants as sending
 use Rattle.caf_scripted.specs.declared.act.Reply.{Reply}
 use Rattle.caf_scripted.specs.declared.act.Reply.TheVariants as reply
 use Rattle.caf_scripted.specs.declared.scripted.Scripted.{Scripted}
-use Rattle.caf_scripted.specs.Scripted.{act_now, first_peer, takes_first, echo_by, echo, ignore, few, answer_by, output_by, outputs_by, reaction_to, reaction, scripted_rules}
+use Rattle.caf_scripted.specs.Scripted.{act_now, first_peer, takes_first, echo_by, ignore, few, answer_by, output_by, outputs_by, reaction_to, reaction, scripted_rules}
 
 abbrev pub AnyValue : Scripted → Type 0
 AnyValue s = Unit {0}

@@ -1,6 +1,5 @@
 -- What a scripted behaviour does.
-use Rattle.std.specs.Prelude.{◌≡◌, ℕ, ◌+◌, ◌&&◌, nat_le, nat_lt, bytes_eq, if◌then◌else◌, Bool, true, false, List, [], ◌∷◌, ◌++◌, length, min, Option, Some, None, slice_index_or, unwrap_or}
-use Rattle.caf_types.specs.declared.reason.Reason.{Reason}
+use Rattle.std.specs.Prelude.{ℕ, ◌+◌, ◌&&◌, nat_le, bytes_eq, if◌then◌else◌, Bool, false, List, [], ◌∷◌, ◌++◌, length, min, Option, Some, None, slice_index_or, unwrap_or}
 use Rattle.caf_types.specs.declared.sec.Sec.TheVariants as sec
 use Rattle.caf_words.specs.Several.{ids_of}
 use Rattle.caf_message.specs.Content.{ids_in}

@@ -85,13 +85,13 @@ impl Model for Stage {
     ghost use Rattle.caf_types.specs.Table.{built_in, shape_at};
     ghost use Rattle.caf_types.specs.TypeTable.{seen};
     ghost use Rattle.caf_scripted.specs.declared.scripted.Scripted.{Scripted};
-    ghost use Rattle.std.specs.Prelude.{◌≡◌};
+    ghost use Rattle.std.specs.Prelude.{◌≡◌, false};
 
     ghost Value = { ActorState Scripted };
 
     ghost view = { λ stage. stage.actor };
 
-    ghost invariant = { λ stage. (seen stage.table ≡ built_in) × CachesFit (shape_at built_in) stage.actor.snapshot.caches };
+    ghost invariant = { λ stage. (seen stage.table ≡ built_in) × (stage.actor.is_broken ≡ false → CachesFit (shape_at built_in) stage.actor.snapshot.caches) };
 }
 
 /// The actor takes the letters, batch by batch.
@@ -187,12 +187,30 @@ fn batch_of(alloc: Global, number: u8, letters: &[Letter]) -> Result<Batch, Mess
 {
     let mut batch = Batch::new(alloc);
     for i in 0..letters.len() {
-        if letters[i].batch == number {
-            let envelope = envelope_of(alloc, i as u64, &letters[i])?;
-            batch.push(envelope)?;
-        }
+        add_letter(alloc, &mut batch, number, i as u64, &letters[i])?;
     }
     Ok(batch)
+}
+
+/// Adds the letter to the batch, if it comes in it.
+fn add_letter(
+    alloc: Global,
+    batch: &mut Batch,
+    number: u8,
+    seq: u64,
+    letter: &Letter,
+) -> Result<(), MessageFault>
+    requires fits { AllByRecursion (EnvelopeFits (shape_at built_in)) (map plain_envelope batch.old) }
+    requires stamps { AllByRecursion (λ (e : Taken). e.stamp < 1099511627776) (map plain_envelope batch.old) }
+    ensures fits { OnOk result (AllByRecursion (EnvelopeFits (shape_at built_in)) (map plain_envelope batch.new)) }
+    ensures stamps { OnOk result (AllByRecursion (λ (e : Taken). e.stamp < 1099511627776) (map plain_envelope batch.new)) }
+{
+    if letter.batch != number {
+        return Ok(());
+    }
+    let envelope = envelope_of(alloc, seq, letter)?;
+    batch.push(envelope)?;
+    Ok(())
 }
 
 fn envelope_of(alloc: Global, seq: u64, letter: &Letter) -> Result<Envelope, MessageFault>

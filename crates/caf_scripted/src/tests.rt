@@ -100,3 +100,287 @@ fn an_urgent_request_is_answered_first(rt: HostRuntime) -> Result<(), Fail> {
     assert_eq!(rt; played.lines.as_slice(), expected.as_slice());
     Ok(())
 }
+
+#[test]
+fn batches_are_answered_one_after_the_other(rt: HostRuntime) -> Result<(), Fail> {
+    let letters = [
+        request(0, 2, 1, Priority::Normal, What::Number(7)),
+        request(1, 2, 2, Priority::Urgent, What::Number(8)),
+    ];
+    let expected = [
+        line(2, 0, mid(2, 1, true), Priority::Normal, 2, What::Number(7)),
+        line(2, 1, mid(2, 2, true), Priority::Urgent, 3, What::Number(8)),
+    ];
+    let played = play(rt.alloc(), echo(false, &[]), letters.as_slice())?;
+    assert_eq!(rt; played.lines.as_slice(), expected.as_slice());
+    Ok(())
+}
+
+#[test]
+fn a_skipped_request_is_answered_after_the_wake(rt: HostRuntime) -> Result<(), Fail> {
+    let wake = Act {
+        sleeps: Some(false),
+        ..Act::only(Reply::Echo)
+    };
+    let letters = [
+        request(0, 2, 1, Priority::Normal, What::Number(7)),
+        request(0, 2, 2, Priority::Normal, What::Nothing),
+    ];
+    let expected = [
+        line(2, 0, mid(2, 2, true), Priority::Normal, 2, What::Nothing),
+        line(2, 1, mid(2, 1, true), Priority::Normal, 2, What::Number(7)),
+    ];
+    let played = play(rt.alloc(), echo(true, &[wake]), letters.as_slice())?;
+    assert_eq!(rt; played.lines.as_slice(), expected.as_slice());
+    Ok(())
+}
+
+// ---- content, requests and responses
+
+#[test]
+fn a_request_outside_the_interface_is_refused(rt: HostRuntime) -> Result<(), Fail> {
+    let calc = Part {
+        peers: &[],
+        acts: &[],
+        is_asleep: false,
+        takes_unit: false,
+    };
+    let letters = [
+        request(0, 2, 1, Priority::Urgent, What::Nothing),
+        tell(0, 2, What::Nothing),
+    ];
+    let expected = [failure(2, 0, 1, Priority::Urgent, 2, Sec::UnexpectedMessage)];
+    let played = play(rt.alloc(), calc, letters.as_slice())?;
+    assert_eq!(rt; played.lines.as_slice(), expected.as_slice());
+    assert_eq!(rt; played.handled, 2);
+    Ok(())
+}
+
+fn ask(tag: u32, id: u16) -> Act {
+    Act {
+        sending: Some(Sending::Ask(Mode::Multiplexed, tag, TypeId(id))),
+        ..Act::only(Reply::Ignore)
+    }
+}
+
+/// Request 1 expects [signed] and gets [unsigned]. A second response to it, and one to a request
+/// that there isn't, are dropped. Request 2 gets what it expects.
+#[test]
+fn a_response_of_other_types_is_an_error(rt: HostRuntime) -> Result<(), Fail> {
+    let acts = [ask(70, 3), ask(71, 2)];
+    let asker = Part {
+        peers: &[5],
+        acts: acts.as_slice(),
+        is_asleep: false,
+        takes_unit: true,
+    };
+    let letters = [
+        tell(0, 2, What::Number(3)),
+        tell(0, 2, What::Number(4)),
+        response(1, 1, What::Number(9)),
+        response(1, 1, What::Number(9)),
+        response(1, 3, What::Number(9)),
+        response(1, 2, What::Number(8)),
+    ];
+    let expected = [
+        line(5, 0, mid(1, 1, false), Priority::Normal, 2, What::Number(3)),
+        line(5, 1, mid(1, 2, false), Priority::Normal, 2, What::Number(4)),
+    ];
+    let notes = [
+        Note::Failed(70, Sec::UnexpectedResponse),
+        Note::Responded(71),
+    ];
+    let played = play(rt.alloc(), asker, letters.as_slice())?;
+    assert_eq!(rt; played.lines.as_slice(), expected.as_slice());
+    assert_eq!(rt; played.notes.as_slice(), notes.as_slice());
+    assert_eq!(rt; played.handled, 6);
+    Ok(())
+}
+
+/// Requests 1 and 2 are awaited. The response to 1 and the content wait for the response to 2.
+#[test]
+fn the_last_awaited_response_comes_first(rt: HostRuntime) -> Result<(), Fail> {
+    let acts = [Act {
+        sending: Some(Sending::Ask(Mode::Awaited, 1, TypeId(2))),
+        afterwards: Some(Sending::Ask(Mode::Awaited, 2, TypeId(2))),
+        ..Act::only(Reply::Ignore)
+    }];
+    let awaiting = Part {
+        peers: &[5],
+        acts: acts.as_slice(),
+        is_asleep: false,
+        takes_unit: true,
+    };
+    let letters = [
+        tell(0, 2, What::Number(3)),
+        request(1, 2, 1, Priority::Urgent, What::Number(6)),
+        response(1, 1, What::Number(9)),
+        response(2, 2, What::Number(8)),
+    ];
+    let expected = [
+        line(5, 0, mid(1, 1, false), Priority::Normal, 2, What::Number(3)),
+        line(5, 1, mid(1, 2, false), Priority::Normal, 2, What::Number(3)),
+        line(2, 0, mid(2, 1, true), Priority::Urgent, 4, What::Number(6)),
+    ];
+    let notes = [Note::Responded(2), Note::Responded(1)];
+    let played = play(rt.alloc(), awaiting, letters.as_slice())?;
+    assert_eq!(rt; played.lines.as_slice(), expected.as_slice());
+    assert_eq!(rt; played.notes.as_slice(), notes.as_slice());
+    assert_eq!(rt; played.batches, 3);
+    Ok(())
+}
+
+// ---- quitting
+
+fn leave() -> Act {
+    Act {
+        quit: Some(Reason::Failed),
+        ..Act::only(Reply::Fail)
+    }
+}
+
+/// The first content is answered by a link to place 3, the second is held, and the third makes it
+/// quit while the fourth is cached.
+#[test]
+fn a_quit_answers_what_it_leaves(rt: HostRuntime) -> Result<(), Fail> {
+    let link = Act {
+        sending: Some(Sending::Link),
+        ..Act::only(Reply::Ignore)
+    };
+    let acts = [link, Act::only(Reply::Hold), leave()];
+    let quitter = Part {
+        peers: &[3],
+        acts: acts.as_slice(),
+        is_asleep: false,
+        takes_unit: true,
+    };
+    let letters = [
+        tell(0, 4, What::Nothing),
+        request(0, 4, 1, Priority::Normal, What::Number(1)),
+        notice(0, 2, Notice::Watch(2)),
+        notice(0, 5, Notice::Link(5)),
+        request(1, 4, 2, Priority::Normal, What::Number(2)),
+        request(1, 4, 3, Priority::Normal, What::Number(3)),
+        notice(1, 0, Notice::Exit(0, Reason::Normal)),
+    ];
+    let expected = [
+        told(3, 0, 2, Notice::Link(1)),
+        failure(4, 0, 2, Priority::Normal, 3, Sec::Failed),
+        failure(4, 1, 1, Priority::Normal, 3, Sec::BrokenPromise),
+        failure(4, 2, 3, Priority::Normal, 3, Sec::RequestReceiverDown),
+        told(3, 1, 3, Notice::Exit(1, Reason::Failed)),
+        told(5, 0, 3, Notice::Exit(1, Reason::Failed)),
+        told(2, 0, 3, Notice::Down(1, Reason::Failed)),
+    ];
+    let played = play(rt.alloc(), quitter, letters.as_slice())?;
+    assert_eq!(rt; played.lines.as_slice(), expected.as_slice());
+    assert_eq!(rt; played.quit, Some(Reason::Failed));
+    assert_eq!(rt; played.handled, 7);
+    Ok(())
+}
+
+#[test]
+fn a_quit_actor_answers_requests_links_and_watches(rt: HostRuntime) -> Result<(), Fail> {
+    let letters = [
+        notice(0, 0, Notice::Exit(0, Reason::Kill)),
+        tell(1, 4, What::Number(4)),
+        notice(1, 6, Notice::Unlink(6)),
+        notice(1, 6, Notice::Link(6)),
+        notice(1, 7, Notice::Watch(7)),
+        request(1, 4, 1, Priority::Normal, What::Number(5)),
+    ];
+    let expected = [
+        told(6, 0, 3, Notice::Exit(1, Reason::Kill)),
+        told(7, 0, 3, Notice::Down(1, Reason::Kill)),
+        failure(4, 0, 1, Priority::Normal, 3, Sec::RequestReceiverDown),
+    ];
+    let played = play(rt.alloc(), echo(false, &[]), letters.as_slice())?;
+    assert_eq!(rt; played.lines.as_slice(), expected.as_slice());
+    assert_eq!(rt; played.quit, Some(Reason::Kill));
+    Ok(())
+}
+
+/// A held request is delivered, one that isn't held is not, and the request that settles it goes on
+/// to place 8.
+#[test]
+fn a_held_request_is_delivered_and_another_delegated(rt: HostRuntime) -> Result<(), Fail> {
+    let settle = Act {
+        sending: Some(Sending::Deliver(4, 1)),
+        afterwards: Some(Sending::Deliver(9, 9)),
+        ..Act::only(Reply::Delegate)
+    };
+    let acts = [Act::only(Reply::Hold), settle];
+    let holder = Part {
+        peers: &[8],
+        acts: acts.as_slice(),
+        is_asleep: false,
+        takes_unit: true,
+    };
+    let letters = [
+        request(0, 4, 1, Priority::Urgent, What::Number(1)),
+        request(1, 2, 1, Priority::Normal, What::Number(6)),
+    ];
+    let expected = [
+        line(4, 0, mid(4, 1, true), Priority::Urgent, 3, What::Number(6)),
+        line(8, 0, mid(2, 1, false), Priority::Normal, 3, What::Number(6)),
+    ];
+    let played = play(rt.alloc(), holder, letters.as_slice())?;
+    assert_eq!(rt; played.lines.as_slice(), expected.as_slice());
+    Ok(())
+}
+
+// ---- one message for several places
+
+/// The first and the second of the messages for three places, replaced by another number.
+fn replaced(alloc: Global, message: Message) -> Result<(Replaced, Replaced), MessageFault> {
+    let mut places = Places::new(alloc);
+    places.push(1)?;
+    places.push(2)?;
+    places.push(3)?;
+    let mut addressed = address(alloc, places, message)?.into_vec();
+    if addressed.len() != 3 {
+        return Err(MessageFault::Large);
+    }
+    let (_, third) = addressed.remove(2);
+    let (_, second) = addressed.remove(1);
+    let (_, first) = addressed.remove(0);
+    let first = replaced_number(alloc, first)?;
+    let second = replaced_number(alloc, second)?;
+    drop(third);
+    Ok((first, second))
+}
+
+fn replaced_number(alloc: Global, message: Message) -> Result<Replaced, MessageFault> {
+    let mut message = message;
+    if message.has_types(&[TypeId(2)]) {
+        return message.replace(alloc, &Number(9));
+    }
+    Err(MessageFault::Large)
+}
+
+/// A further reference to the message's tuple, in place of it.
+fn narrower(message: Message) -> Result<Message, Memory> {
+    let mut message = message;
+    if message.room() > 0 {
+        return message.retain();
+    }
+    Ok(message)
+}
+
+/// The first of three references is replaced by a copy, and then the second one of two. After five
+/// retains a message has a room of 128: each place gets a tuple of its own.
+#[test]
+fn three_places_share_one_tuple_where_there_is_room(rt: HostRuntime) -> Result<(), Fail> {
+    let alloc = rt.alloc();
+    let message = Message::of(alloc, &Number(7))?;
+    let both = replaced(alloc, message)?;
+    assert_eq!(rt; both, (Replaced::Copied(3), Replaced::Copied(2)));
+    let mut message = Message::of(alloc, &Number(7))?;
+    for _ in 0..5 {
+        message = narrower(message)?;
+    }
+    assert_eq!(rt; message.room(), 128);
+    let both = replaced(alloc, message)?;
+    assert_eq!(rt; both, (Replaced::InPlace, Replaced::InPlace));
+    Ok(())
+}

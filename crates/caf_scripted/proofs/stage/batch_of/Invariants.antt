@@ -1,4 +1,4 @@
-use Rattle.std.proofs.Common.{◌≡◌, ◌<◌, map}
+use Rattle.std.proofs.Common.{◌<◌, map}
 use Rattle.std.specs.List.{AllByRecursion}
 use Rattle.caf_types.specs.Table.{built_in, shape_at}
 use Rattle.caf_message.specs.declared.envelope.Taken.{Taken}
