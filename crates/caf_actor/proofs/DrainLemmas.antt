@@ -10,7 +10,8 @@ use Rattle.caf_actor.specs.Snapshot.{Handled, cached, next_envelope}
 use Rattle.caf_actor.specs.Handling.{handle_one}
 use Rattle.caf_actor.specs.Actor.{CachesFit}
 use Rattle.caf_actor.specs.Drain.{drain_for, drain, with_batch, batch_of}
-use Rattle.caf_actor.proofs.CachedLemmas.{AllCached, left_envelope, cached_one, all_cached_one, filed_fit}
+use Rattle.caf_mailbox.proofs.NextLemmas.{AllCached}
+use Rattle.caf_actor.proofs.CachedLemmas.{left_envelope, cached_one, all_cached_one, filed_fit}
 
 module _ {S : Type 0} (rules : Rules S) where
   pub cached_next : (s : Snapshot S) (p : Taken × Snapshot S) → next_envelope rules s ≡ Some p → cached s ≡ suc (cached p.1)

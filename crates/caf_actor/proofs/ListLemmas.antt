@@ -1,6 +1,6 @@
 -- Lists that are read from the front.
-use Rattle.std.proofs.Common.{◌≡◌, ℕ, zero, suc, ◌+◌, ◌<◌, Bool, true, false, List, [], ◌∷◌, length, drop, get_or, map, Some, refl, sym, ap, ◌∙◌}
-use Rattle.std.specs.Prelude.{find, slice_set}
+use Rattle.std.proofs.Common.{◌≡◌, ℕ, ◌+◌, ◌<◌, Bool, true, false, List, ◌∷◌, length, drop, get_or, Some, refl, sym, ap, ◌∙◌}
+use Rattle.std.specs.Prelude.{find}
 use Rattle.std.proofs.lemmas.List.{drop_more}
 
 module _ {A : Type 0} where
@@ -13,9 +13,3 @@ module _ {A : Type 0} where
 
   pub find_on : (test : A → Bool) (xs : List A) (i : ℕ) (x : A) → i < length xs → x ≡ get_or xs i x → test x ≡ false → find test (drop i xs) ≡ find test (drop (i + 1) xs)
   find_on test xs i x lt is fails = ap (find test) (next_item xs i x lt is) ∙ rw fails refl
-
--- a write that the function doesn't see
-pub map_set_kept : {A B : Type 0} (f : A → B) (xs : List A) (i : ℕ) (x d : A) → f x ≡ f (get_or xs i d) → map f (slice_set xs i x) ≡ map f xs
-map_set_kept f [] i x d h = refl
-map_set_kept f (y ∷ ys) zero x d h = ap (λ z. z ∷ map f ys) h
-map_set_kept f (y ∷ ys) (suc i) x d h = ap (λ zs. f y ∷ zs) (map_set_kept f ys i x d h)

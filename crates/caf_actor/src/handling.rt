@@ -13,23 +13,12 @@ ghost use Rattle.caf_actor.specs.Handling.{response_input, failure_input};
 ghost use Rattle.caf_actor.specs.Handling as handling;
 
 use crate::content::{has_types, signature_of};
+use crate::laws::another_message;
 use crate::post::Posts;
 use crate::{Behavior, Input, Origin, Reaction, Snapshot};
 use caf_message::{Body, Envelope, Message};
 use caf_types::{Memory, Notice, Reason, Sec, TypeTable};
 use std::alloc::Global;
-
-/// A second message with the same content, which a delegation sends on: in the same tuple where it
-/// has room for one.
-fn second_of(alloc: Global, message: &mut Message) -> Result<Message, Memory>
-    ensures second { IfOk result (λ second. second.content ≡ message.old.content) }
-    ensures kept { message.new.content ≡ message.old.content }
-{
-    if message.room() > 0 {
-        return message.retain();
-    }
-    message.copy(alloc)
-}
 
 impl<B: Behavior> Snapshot<B> {
     /// Gives the behaviour an input that is no content.
@@ -70,7 +59,7 @@ impl<B: Behavior> Snapshot<B> {
         ensures { OnOk result (handling.give_content B.rules (self.old, posts.old) origin message.content ≡ (self.new, posts.new)) }
     {
         let mut message = message;
-        let second = second_of(alloc, &mut message)?;
+        let second = another_message(alloc, &mut message, true)?;
         let input = Input::Content(origin, message);
         let reaction = self.behavior.react(alloc, table, input)?;
         let Reaction {

@@ -61,8 +61,13 @@ fn further_messages(
     Ok(further)
 }
 
-/// A second message with the same content: in the same tuple where it is to be shared and has room.
-fn another_message(alloc: Global, message: &mut Message, shares: bool) -> Result<Message, Memory>
+/// A second message with the same content: in the same tuple where it is to be shared and has room,
+/// and else a copy.
+pub fn another_message(
+    alloc: Global,
+    message: &mut Message,
+    shares: bool,
+) -> Result<Message, Memory>
     ensures same { IfOk result (λ another. another.content ≡ message.old.content) }
     ensures kept { message.new.content ≡ message.old.content }
     ensures shared { shares ≡ true → 1 ≤ message.old.room → OnOk result (message.new ≡ retained message.old) }

@@ -21,7 +21,8 @@ pub struct Act {
 pub enum Sending {
     /// The content.
     Tell,
-    /// The content to all peers, where these are at most 512.
+    /// The content to all peers, where these are at most 512, by one message that shares its tuple
+    /// with the content where that has room.
     Fan,
     /// The content as a request: how it waits, its tag, and the one type that is expected.
     Ask(Mode, u32, TypeId),

@@ -7,6 +7,7 @@ ghost use Rattle.caf_scripted.specs.Laws as laws;
 ghost use Rattle.caf_scripted.specs.Scripted.{scripted_rules, act_now, first_peer, takes_first, few, answer_by, output_by, outputs_by, echo, reaction_to, no_reaction, acted, noted};
 
 use crate::{Act, Note, Reply, Sending};
+use caf_actor::laws::another_message;
 use caf_actor::{Answer, Behavior, Input, Origin, Output, Reaction, signature_of};
 use caf_message::{Entries, Message};
 use caf_signature::Interface;
@@ -187,9 +188,9 @@ impl Scripted {
                 Ok(Output::Tell(to, priority, copy))
             }
             Sending::Fan => {
-                let copy = message.copy(alloc)?;
+                let another = another_message(alloc, message, true)?;
                 let places = few_places(alloc, &self.peers)?;
-                Ok(Output::TellMany(places, priority, copy))
+                Ok(Output::TellMany(places, priority, another))
             }
             Sending::Ask(mode, tag, expected) => {
                 let copy = message.copy(alloc)?;

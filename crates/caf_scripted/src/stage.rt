@@ -3,10 +3,11 @@ ghost use Rattle.std.specs.Prelude.{◌≡◌, ◌≢◌, ◌<◌, [], IfOk, OnO
 ghost use Rattle.std.specs.List.{AllByRecursion};
 ghost use Rattle.caf_types.specs.Table.{built_in, shape_at};
 ghost use Rattle.caf_message.specs.Envelope.{plain_envelope, plain_body, EnvelopeFits, BodyFits};
+ghost use Rattle.caf_message.specs.Fits.{FitsTable};
 ghost use Rattle.caf_message.specs.declared.envelope.Taken.{Taken};
 
 use crate::rows::{Nothing, Number};
-use crate::{Act, Note, Scripted};
+use crate::{Act, Note, Reply, Scripted, Sending};
 use caf_actor::{Actor, Post};
 use caf_message::{Batch, Body, Envelope, Message, MessageFault};
 use caf_signature::{Interface, Signature};
@@ -104,6 +105,69 @@ pub(crate) fn play(alloc: Global, part: Part, letters: &[Letter]) -> Result<Play
     Ok(stage.played(lines)?)
 }
 
+/// What an actor sends that tells a number to three places, where the message that it is told has
+/// been retained so many times, each time in place of it.
+pub(crate) fn fan_out(alloc: Global, retains: u8) -> Result<Seq<Post>, MessageFault> {
+    let fan = Act {
+        sending: Some(Sending::Fan),
+        ..Act::only(Reply::Ignore)
+    };
+    let part = Part {
+        peers: &[3, 4, 5],
+        acts: &[fan],
+        is_asleep: false,
+        takes_unit: true,
+    };
+    let mut stage = Stage::new(alloc, part)?;
+    let message = retained_number(alloc, retains)?;
+    let batch = batch_with(alloc, message)?;
+    stage.take_batch(batch)
+}
+
+/// A message with a number whose room shrank so many times.
+fn retained_number(alloc: Global, retains: u8) -> Result<Message, MessageFault>
+    ensures { IfOk result (λ message. FitsTable built_in message.content) }
+{
+    let mut message = Message::of(alloc, &Number(7))?;
+    for _ in 0..retains {
+        message = narrower(message)?;
+    }
+    Ok(message)
+}
+
+/// A further reference to the message's tuple, in place of it.
+pub(crate) fn narrower(message: Message) -> Result<Message, Memory>
+    ensures { IfOk result (λ narrow. narrow.content ≡ message.content) }
+{
+    let mut message = message;
+    if message.room() > 0 {
+        return message.retain();
+    }
+    Ok(message)
+}
+
+/// The message as the one content of a batch.
+fn batch_with(alloc: Global, message: Message) -> Result<Batch, Memory>
+    requires { FitsTable built_in message.content }
+    ensures fits { IfOk result (λ batch. AllByRecursion (EnvelopeFits (shape_at built_in)) (map plain_envelope batch)) }
+    ensures stamps { IfOk result (λ batch. AllByRecursion (λ (e : Taken). e.stamp < 1099511627776) (map plain_envelope batch)) }
+{
+    let mut batch = Batch::new(alloc);
+    batch.push(Envelope {
+        sender: 2,
+        seq: 0,
+        mid: Mid {
+            requester: 2,
+            number: 0,
+            response: false,
+        },
+        priority: Priority::Normal,
+        stamp: 1,
+        body: Body::Content(message),
+    })?;
+    Ok(batch)
+}
+
 impl Stage {
     fn new(alloc: Global, part: Part) -> Result<Stage, Memory> {
         let table = TypeTable::new(alloc)?;
@@ -132,12 +196,21 @@ impl Stage {
         lines: &mut Seq<Line>,
     ) -> Result<(), MessageFault> {
         let batch = batch_of(self.alloc, number, letters)?;
-        if batch.as_slice().is_empty() || self.actor.stamp() >= 1 << 40 {
-            return Ok(());
-        }
-        let posts = self.actor.batch(self.alloc, &self.table, batch)?;
+        let posts = self.take_batch(batch)?;
         add_lines(self.alloc, lines, posts)?;
         Ok(())
+    }
+
+    /// The actor takes a batch, where it isn't empty.
+    fn take_batch(&mut self, batch: Batch) -> Result<Seq<Post>, MessageFault>
+        requires fits { AllByRecursion (EnvelopeFits (shape_at built_in)) (map plain_envelope batch) }
+        requires stamps { AllByRecursion (λ (e : Taken). e.stamp < 1099511627776) (map plain_envelope batch) }
+    {
+        if batch.as_slice().is_empty() || self.actor.stamp() >= 1 << 40 {
+            return Ok(Seq::new(self.alloc));
+        }
+        let posts = self.actor.batch(self.alloc, &self.table, batch)?;
+        Ok(posts)
     }
 
     fn played(self, lines: Seq<Line>) -> Result<Played, Memory> {

@@ -1,10 +1,11 @@
 use crate::rows::Number;
-use crate::stage::{Letter, Line, Part, What, play};
+use crate::stage::{Letter, Line, Part, What, fan_out, narrower, play};
 use crate::{Act, Note, Reply, Sending};
+use caf_actor::Post;
 use caf_actor::laws::address;
-use caf_message::{Message, MessageFault, Replaced};
+use caf_message::{Body, Message, MessageFault, Replaced};
 use caf_response::Mode;
-use caf_types::{Memory, Mid, Notice, Places, Priority, Reason, Sec, TypeId};
+use caf_types::{Memory, Mid, Notice, Places, Priority, Reason, Sec, Seq, TypeId};
 use std::alloc::Global;
 use std::test::Fail;
 
@@ -358,15 +359,6 @@ fn replaced_number(alloc: Global, message: Message) -> Result<Replaced, MessageF
     Err(MessageFault::Large)
 }
 
-/// A further reference to the message's tuple, in place of it.
-fn narrower(message: Message) -> Result<Message, Memory> {
-    let mut message = message;
-    if message.room() > 0 {
-        return message.retain();
-    }
-    Ok(message)
-}
-
 /// The first of three references is replaced by a copy, and then the second one of two. After five
 /// retains a message has a room of 128: each place gets a tuple of its own.
 #[test]
@@ -382,5 +374,32 @@ fn three_places_share_one_tuple_where_there_is_room(rt: HostRuntime) -> Result<(
     assert_eq!(rt; message.room(), 128);
     let both = replaced(alloc, message)?;
     assert_eq!(rt; both, (Replaced::InPlace, Replaced::InPlace));
+    Ok(())
+}
+
+/// What the first of three posts answers when its message is replaced while the others are there.
+fn first_replaced(alloc: Global, posts: Seq<Post>) -> Result<Replaced, MessageFault> {
+    let mut posts = posts.into_vec();
+    if posts.len() != 3 {
+        return Err(MessageFault::Large);
+    }
+    let first = posts.remove(0);
+    let replaced = match first.envelope.body {
+        Body::Content(message) => replaced_number(alloc, message)?,
+        _ => return Err(MessageFault::Large),
+    };
+    drop(posts);
+    Ok(replaced)
+}
+
+/// Three references to one tuple are sent. Where the message that the actor got has a room of 128,
+/// each further place gets a copy, and the first one a sole reference.
+#[test]
+fn a_fan_out_of_an_actor_shares_one_tuple(rt: HostRuntime) -> Result<(), Fail> {
+    let alloc = rt.alloc();
+    let shared = fan_out(alloc, 0)?;
+    assert_eq!(rt; first_replaced(alloc, shared)?, Replaced::Copied(3));
+    let copied = fan_out(alloc, 5)?;
+    assert_eq!(rt; first_replaced(alloc, copied)?, Replaced::InPlace);
     Ok(())
 }

@@ -6,7 +6,8 @@ use Rattle.caf_message.specs.Envelope.{EnvelopeFits, plain_envelope}
 use Rattle.caf_actor.specs.declared.snapshot.Snapshot.{Snapshot}
 use Rattle.caf_actor.specs.Snapshot.{Handled, cached}
 use Rattle.caf_actor.specs.Drain.{drain}
-use Rattle.caf_actor.proofs.CachedLemmas.{AllCached, left_envelope, all_cached_one, cached_one}
+use Rattle.caf_mailbox.proofs.NextLemmas.{AllCached}
+use Rattle.caf_actor.proofs.CachedLemmas.{left_envelope, all_cached_one, cached_one}
 use Rattle.caf_actor.proofs.DrainLemmas.{drain_step}
 use Rattle.caf_actor.proofs.snapshot.Snapshot.drain.Goals as goal
 
