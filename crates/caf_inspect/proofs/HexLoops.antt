@@ -1,6 +1,7 @@
 -- Reading pairs of hexadecimal digits one after the other.
 use Rattle.std.proofs.Common.{◌≡◌, ℕ, ◌<◌, ◌≤◌, List, [], ◌∷◌, ◌++◌, length, drop, get_or, Option, Some, None, refl, sym, ap, ◌∙◌, append_assoc, arith}
-use Rattle.caf_inspect.specs.Hex.{digit_value, pair_value, in_front, unhex}
+use Rattle.caf_text.specs.TextReading.{digit_value, pair_value}
+use Rattle.caf_inspect.specs.Hex.{in_front, unhex}
 
 -- bytes that were read before
 abbrev pub behind : List ℕ → Option (List ℕ) → Option (List ℕ)

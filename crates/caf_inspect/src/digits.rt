@@ -1,21 +1,10 @@
 ghost use Rattle.std.specs.Prelude.{◌≡◌, ◌++◌, ◌∷◌, [], IfOk, OnOk};
 ghost use Rattle.std.specs.Option.{option_map};
-ghost use Rattle.caf_inspect.specs.Hex as hexes;
 ghost use Rattle.caf_inspect.specs.Hex.{unhex};
 
+use caf_text::pair_value;
 use caf_types::Memory;
 use std::alloc::Global;
-
-/// The value of a digit `0` to `9` or `a` to `f`.
-pub(crate) fn digit_value(digit: u8) -> Option<u8>
-    ensures { result ≡ hexes.digit_value digit }
-{
-    match digit {
-        b'0'..=b'9' => Some(digit - b'0'),
-        b'a'..=b'f' => Some(digit - 87),
-        _ => None,
-    }
-}
 
 fn add_byte(bytes: &mut Vec<u8>, byte: u8) -> Result<(), Memory>
     ensures { OnOk result (bytes.new.items ≡ bytes.old.items ++ byte ∷ []) }
@@ -24,15 +13,6 @@ fn add_byte(bytes: &mut Vec<u8>, byte: u8) -> Result<(), Memory>
         Ok(()) => Ok(()),
         Err(_) => Err(Memory),
     }
-}
-
-/// The byte of two digits.
-pub(crate) fn pair_value(high: u8, low: u8) -> Option<u8>
-    ensures { result ≡ hexes.pair_value (hexes.digit_value high) (hexes.digit_value low) }
-{
-    let high = digit_value(high)?;
-    let low = digit_value(low)?;
-    Some(high * 16 + low)
 }
 
 #[tactic(auto, using(crate::proofs::HexLoops::no_pair, crate::proofs::HexLoops::half_left))]

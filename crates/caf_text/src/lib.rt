@@ -18,6 +18,7 @@ mod whole;
 mod writing;
 
 pub use law::text_is_exact;
+pub use quoted::pair_value;
 pub use stop::TextFault;
 pub use whole::read_text;
 pub use writing::{

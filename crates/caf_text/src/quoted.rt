@@ -104,8 +104,8 @@ fn escape_move(byte: u8) -> Move
     }
 }
 
-/// The byte of two digits.
-fn pair_value(first: u8, second: u8) -> Option<u8>
+/// The byte of two lower-case hexadecimal digits; None exactly where one of them is none.
+pub fn pair_value(first: u8, second: u8) -> Option<u8>
     ensures { result ≡ texts.pair_value (texts.digit_value first) (texts.digit_value second) }
 {
     let high = digit_value(first)?;
