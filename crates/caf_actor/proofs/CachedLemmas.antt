@@ -1,7 +1,7 @@
 -- How many envelopes are cached, and what is left in the lists.
 use Rattle.std.proofs.Common.{◌≡◌, ℕ, suc, ◌≤◌, List, Option, Some, None, refl, subst, arith}
 use Rattle.std.specs.List.{AllByRecursion}
-use Rattle.caf_types.specs.Form.{Form}
+use Rattle.caf_types.specs.ShapeTree.{ShapeTree}
 use Rattle.caf_message.specs.declared.envelope.Taken.{Taken}
 use Rattle.caf_message.specs.Envelope.{EnvelopeFits}
 use Rattle.caf_mailbox.specs.Caches.{CachedLists, filed, next_of}
@@ -46,7 +46,7 @@ module _ {S : Type 0} (rules : Rules S) where
 
 -- ---- a batch that is filed
 
-pub filed_fit : (shape_of : ℕ → Option Form) (lists : CachedLists) (batch : List Taken) → CachesFit shape_of lists → AllByRecursion (EnvelopeFits shape_of) batch → CachesFit shape_of (filed lists batch)
+pub filed_fit : (shape_of : ℕ → Option ShapeTree) (lists : CachedLists) (batch : List Taken) → CachesFit shape_of lists → AllByRecursion (EnvelopeFits shape_of) batch → CachesFit shape_of (filed lists batch)
 filed_fit shape_of lists batch h k =
     let all = all_filed (EnvelopeFits shape_of) lists batch (h.urgent, h.normal) k in
     record { urgent = all.0; normal = all.1 }

@@ -1,7 +1,7 @@
 -- The drain, one envelope at a time.
 use Rattle.std.proofs.Common.{◌≡◌, ℕ, zero, suc, ◌≤◌, List, [], Option, Some, None, refl, arith, ◌∙◌}
 use Rattle.std.specs.List.{AllByRecursion}
-use Rattle.caf_types.specs.Form.{Form}
+use Rattle.caf_types.specs.ShapeTree.{ShapeTree}
 use Rattle.caf_message.specs.Envelope.{EnvelopeFits}
 use Rattle.caf_message.specs.declared.envelope.Taken.{Taken}
 use Rattle.caf_actor.specs.declared.snapshot.Snapshot.{Snapshot}
@@ -69,7 +69,7 @@ module _ {S : Type 0} (rules : Rules S) where
       omega arith) (cached t.0) t (omega arith)
 
   -- what fits in the lists and in the batch fits in the lists after it
-  pub batch_fit : (shape_of : ℕ → Option Form) (s : Snapshot S) (batch : List Taken) → CachesFit shape_of s.caches → AllByRecursion (EnvelopeFits shape_of) batch → CachesFit shape_of (batch_of rules s batch).0.caches
+  pub batch_fit : (shape_of : ℕ → Option ShapeTree) (s : Snapshot S) (batch : List Taken) → CachesFit shape_of s.caches → AllByRecursion (EnvelopeFits shape_of) batch → CachesFit shape_of (batch_of rules s batch).0.caches
   batch_fit shape_of s batch h k =
       let filed = filed_fit shape_of s.caches batch h k in
       let t : Handled S = (with_batch s batch, []) in

@@ -1,7 +1,7 @@
 -- What an actor is seen as.
 use Rattle.std.specs.Prelude.{ℕ, ◌+◌, min, Bool, false, List, []}
 use Rattle.std.specs.List.{AllByRecursion}
-use Rattle.caf_types.specs.Form.{Form}
+use Rattle.caf_types.specs.ShapeTree.{ShapeTree}
 use Rattle.std.specs.Prelude.{Option}
 use Rattle.caf_message.specs.Envelope.{EnvelopeFits}
 use Rattle.caf_mailbox.specs.Caches.{CachedLists}
@@ -24,6 +24,6 @@ abbrev pub add_handled : ℕ → ℕ → ℕ
 add_handled handled more = min (handled + more) 18446744073709551615
 
 -- every content in the lists fits
-pub record CachesFit (shape_of : ℕ → Option Form) (lists : CachedLists) : Type 0 where
+pub record CachesFit (shape_of : ℕ → Option ShapeTree) (lists : CachedLists) : Type 0 where
   pub urgent : AllByRecursion (EnvelopeFits shape_of) lists.urgent
   pub normal : AllByRecursion (EnvelopeFits shape_of) lists.normal

@@ -2,7 +2,7 @@
 use Rattle.std.specs.Prelude.{◌≡◌, ◌≢◌, ℕ, ◌+◌, ◌<◌, ◌≤◌, Bool, true, List, [], ◌∷◌, length, bytes_eq, Option, Some, None, is_some, find, Contains}
 use Rattle.std.specs.List.{AllByRecursion}
 use Rattle.std.specs.Option.{option_map}
-use Rattle.caf_types.specs.Form.{Form}
+use Rattle.caf_types.specs.ShapeTree.{ShapeTree}
 use Rattle.caf_types.specs.Table.{Table, shape_at}
 use Rattle.caf_words.specs.Several.{ids_of}
 use Rattle.caf_message.specs.Content.{ids_in}
@@ -50,25 +50,25 @@ MayBeGiven rules s _ = Unit {0}
 
 -- ---- which contents fit
 
-abbrev pub FitsWhereGiven : (ℕ → Option Form) → Option (List ℕ) → Type 0
+abbrev pub FitsWhereGiven : (ℕ → Option ShapeTree) → Option (List ℕ) → Type 0
 FitsWhereGiven shape_of None = Unit {0}
 FitsWhereGiven shape_of (Some words) = Fits shape_of words
 
-abbrev pub InputFits : (ℕ → Option Form) → PlainInput → Type 0
+abbrev pub InputFits : (ℕ → Option ShapeTree) → PlainInput → Type 0
 InputFits shape_of i = FitsWhereGiven shape_of (content_given i)
 
-abbrev pub OutputFits : (ℕ → Option Form) → PlainOutput → Type 0
+abbrev pub OutputFits : (ℕ → Option ShapeTree) → PlainOutput → Type 0
 OutputFits shape_of (output.Tell to priority words) = Fits shape_of words
 OutputFits shape_of (output.TellMany places priority words) = Fits shape_of words
 OutputFits shape_of (output.Request to priority mode tag expected words) = Fits shape_of words
 OutputFits shape_of (output.Deliver requester number words) = Fits shape_of words
 OutputFits shape_of _ = Unit {0}
 
-abbrev pub AnswerFits : (ℕ → Option Form) → PlainAnswer → Type 0
+abbrev pub AnswerFits : (ℕ → Option ShapeTree) → PlainAnswer → Type 0
 AnswerFits shape_of (answer.Value words) = Fits shape_of words
 AnswerFits shape_of _ = Unit {0}
 
-pub record ReactionFits (shape_of : ℕ → Option Form) (r : PlainReaction) : Type 0 where
+pub record ReactionFits (shape_of : ℕ → Option ShapeTree) (r : PlainReaction) : Type 0 where
   pub outputs : AllByRecursion (OutputFits shape_of) r.outputs
   pub answer : AnswerFits shape_of r.answer
 

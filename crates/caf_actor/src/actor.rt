@@ -1,6 +1,6 @@
 ghost use Rattle.std.specs.Prelude.{◌≡◌, ◌≢◌, ℕ, Option, [], ◌∷◌, ◌++◌, ◌<◌, ◌≤◌, ◌^◌, map, OnOk, OnErr, IfOk, true, false};
 ghost use Rattle.std.specs.List.{AllByRecursion};
-ghost use Rattle.caf_types.specs.Form.{Form};
+ghost use Rattle.caf_types.specs.ShapeTree.{ShapeTree};
 ghost use Rattle.caf_types.specs.Table.{shape_at};
 ghost use Rattle.caf_types.specs.TypeTable.{seen};
 ghost use Rattle.caf_message.specs.Entries.{HasEntries};
@@ -72,7 +72,7 @@ impl<B: Behavior> Actor<B> {
         ensures snapshot { OnOk result (self.new.snapshot ≡ (batch_of B.rules self.old.snapshot (map plain_envelope batch)).0) }
         ensures journal { OnOk result (self.new.journal ≡ self.old.journal ++ record { stamp = stamp_due self.old.snapshot.stamp (map plain_envelope batch); taken = map plain_envelope batch } ∷ []) }
         ensures handled { OnOk result (self.new.handled ≡ add_handled self.old.handled (left_in_batch B.rules self.old.snapshot (map plain_envelope batch))) }
-        ensures fit { (shape_of : ℕ → Option Form) → CachesFit shape_of self.old.snapshot.caches → AllByRecursion (EnvelopeFits shape_of) (map plain_envelope batch)
+        ensures fit { (shape_of : ℕ → Option ShapeTree) → CachesFit shape_of self.old.snapshot.caches → AllByRecursion (EnvelopeFits shape_of) (map plain_envelope batch)
             → OnOk result (CachesFit shape_of self.new.snapshot.caches) }
         ensures whole { OnOk result ((self.old.is_broken ≡ false) × (self.new.is_broken ≡ false)) }
         ensures broken { OnErr result (self.new.is_broken ≡ true) }

@@ -3,7 +3,7 @@ use Rattle.std.proofs.Common.{◌≡◌, ℕ, zero, suc, ◌+◌, List, [], ◌�
 use Rattle.std.proofs.lemmas.List.{append-nil}
 use Rattle.serde_json.specs.Data.{Data as Json, null, array, object as members_in, Items, no_items, item, Members, no_members, put}
 use Rattle.serde_json.specs.View.{items_of}
-use Rattle.caf_types.specs.Form.{Form, unit, flag, unsigned, signed, text, bytes, place, list, object, Parts, no_parts, part, count_parts}
+use Rattle.caf_types.specs.ShapeTree.{ShapeTree, unit, flag, unsigned, signed, text, bytes, place, list, object, Parts, no_parts, part, count_parts}
 use Rattle.caf_words.specs.Datum.{Datum, Data, no_data, more, count}
 use Rattle.caf_inspect.specs.Event as event
 use Rattle.caf_inspect.specs.Event.{Event, events, each_events, part_events}
@@ -40,7 +40,7 @@ items_built P one form_of g (more d ds) h (suc n) c js fs last rest =
     ∙ items_built P one form_of g ds h.1 n (omega arith) (js ++ form_of d ∷ []) fs last rest
     ∙ ap (λ its. steps (give fs last (array its)) rest) (onto_more js (form_of d) (each_json form_of ds)))
 
-list_built : (f : Form) → Builds (IsOf f) (events f) (json f) → (ds : Data) → AllAre (IsOf f) ds → (fs : List Frame) (last : Json) (rest : List Event)
+list_built : (f : ShapeTree) → Builds (IsOf f) (events f) (json f) → (ds : Data) → AllAre (IsOf f) ds → (fs : List Frame) (last : Json) (rest : List Event)
     → steps (step (state fs last) (event.list (count ds))) (each_events (events f) ds ++ rest) ≡ steps (give fs last (array (each_json (json f) ds))) rest
 list_built f g no_data h fs last rest = refl
 list_built f g (more d ds) h fs last rest =
@@ -56,7 +56,7 @@ nothing_behind : (ps : Parts) → PartsAre ps no_data → (part_events ps no_dat
 nothing_behind no_parts h = (refl, λ ms. refl)
 nothing_behind (part name f ps) h = absurd cc
 
-part_built : (name : List ℕ) (f : Form) (ps : Parts) → Builds (IsOf f) (events f) (json f) → PartsBuild ps
+part_built : (name : List ℕ) (f : ShapeTree) (ps : Parts) → Builds (IsOf f) (events f) (json f) → PartsBuild ps
     → (d : Datum) (ds : Data) → IsOf f d → PartsAre ps ds → (n : ℕ) → count (more d ds) ≡ n + 1 → (ms : Members) (key : List ℕ) (fs : List Frame) (last : Json) (rest : List Event)
     → steps (state (in_object n ms key ∷ fs) last) (part_events (part name f ps) (more d ds) ++ rest) ≡ steps (give fs last (members_in (members_json (part name f ps) (more d ds) ms))) rest
 part_built name f ps g k d no_data h hs zero c ms key fs last rest =
@@ -77,7 +77,7 @@ object_built ps k (more d ds) h fs last rest =
     rw n (k (more d ds) h (count ds) refl no_members [] fs last rest)
 
 mutual
-  pub all_built : (f : Form) → Builds (IsOf f) (events f) (json f)
+  pub all_built : (f : ShapeTree) → Builds (IsOf f) (events f) (json f)
   all_built unit d h fs last rest = rw h refl
   all_built flag d h fs last rest = rw (h.1) refl
   all_built unsigned d h fs last rest = rw (h.1) refl
@@ -98,7 +98,7 @@ last_in : State → Json
 last_in (state fs last) = last
 
 -- a saver that was told the events of one value holds its form
-pub built_whole : (f : Form) (d : Datum) (fs : List Frame) (last : Json) → IsOf f d → state fs last ≡ steps (state [] null) (events f d) → last ≡ json f d
+pub built_whole : (f : ShapeTree) (d : Datum) (fs : List Frame) (last : Json) → IsOf f d → state fs last ≡ steps (state [] null) (events f d) → last ≡ json f d
 unfolding last_in
 built_whole f d fs last h is =
     ap last_in (is ∙ ap (steps (state [] null)) (sym (append-nil (events f d))) ∙ all_built f d h [] null [])

@@ -3,7 +3,7 @@ use Rattle.std.proofs.Common.{◌≡◌, ℕ, ◌+◌, ◌<◌, Bool, true, fals
 use borrow.Author.Tests.{ltb-true}
 use Rattle.serde_json.specs.Data.{Data as Json, null, boolean, string, array, object as members_in, Items, no_items, item, Members}
 use Rattle.serde_json.specs.Find.{get, as_null, as_bool, as_str, as_array, as_object}
-use Rattle.caf_types.specs.Form.{Form, unit, flag, unsigned, signed, text, bytes, place, list, object, Parts, no_parts, part}
+use Rattle.caf_types.specs.ShapeTree.{ShapeTree, unit, flag, unsigned, signed, text, bytes, place, list, object, Parts, no_parts, part}
 use Rattle.caf_words.specs.Datum.{Datum, a_unit, a_flag, an_unsigned, a_signed, a_text, some_bytes, a_place, a_list, an_object, Data, no_data, more}
 use Rattle.caf_inspect.specs.Hex.{unhex}
 use Rattle.caf_inspect.specs.JsonForm.{unsigned_in, signed_in, are_declared, HasJson, EachHasJson, PartsHaveJson}
@@ -95,7 +95,7 @@ each_has one P s i (item j js) ds h =
     subst (λ (xs : Data). EachHasJson P xs (item j js)) (sym p.4) (j, js, s j p.0 (inside_is i (one j) p.0 p.2), each_has one P s (i + 1) js p.1 p.3, refl)
 
 mutual
-  pub has_json : (f : Form) (j : Json) (d : Datum) → unjson f j ≡ Ok d → HasJson f d j
+  pub has_json : (f : ShapeTree) (j : Json) (d : Datum) → unjson f j ≡ Ok d → HasJson f d j
   has_json unit j d h = let p = found_is (λ _. a_unit) (as_null j) d h in (p.2, null_is j (ap is_some p.1))
   has_json flag j d h = let p = found_is a_flag (as_bool j) d h in (p.0, p.2, bool_is j p.0 p.1)
   has_json unsigned j d h = let p = found_is an_unsigned (unsigned_in j) d h in (p.0, p.2, p.1)
@@ -140,7 +140,7 @@ each_read_ok one P s i (more d ds) js h =
     rw (h.4) (more_ok (inside i (one h.0)) (each_read one (i + 1) h.1) d ds (inside_ok i (one h.0) d (s d h.0 h.2)) (each_read_ok one P s (i + 1) ds h.1 h.3))
 
 mutual
-  pub read_back : (f : Form) (d : Datum) (j : Json) → HasJson f d j → unjson f j ≡ Ok d
+  pub read_back : (f : ShapeTree) (d : Datum) (j : Json) → HasJson f d j → unjson f j ≡ Ok d
   read_back unit d j h = rw (h.0, h.1) refl
   read_back flag d j h = rw (h.1, h.2) refl
   read_back unsigned d j h = ap (found an_unsigned) h.2 ∙ ap read_ok (sym h.1)
@@ -163,10 +163,10 @@ mutual
 
 -- ---- what is no form is refused
 
-pub no_form : (f : Form) (j : Json) (path : List ℕ) → unjson f j ≡ Err path → (d : Datum) → HasJson f d j → ⊥
+pub no_form : (f : ShapeTree) (j : Json) (path : List ℕ) → unjson f j ≡ Err path → (d : Datum) → HasJson f d j → ⊥
 no_form f j path e d h = let q : read_ok d ≡ Err path = sym (read_back f d j h) ∙ e in absurd cc
 
-pub one_value : (f : Form) (d e : Datum) (j : Json) → HasJson f d j → HasJson f e j → d ≡ e
+pub one_value : (f : ShapeTree) (d e : Datum) (j : Json) → HasJson f d j → HasJson f e j → d ≡ e
 one_value f d e j h g = ok_is d e (sym (read_back f d j h) ∙ read_back f e j g)
 
 -- ---- a value with a form is of the shape
@@ -176,7 +176,7 @@ each_is P Q s no_data js h = tt
 each_is P Q s (more d ds) js h = (s d h.0 h.2, each_is P Q s ds h.1 h.3)
 
 mutual
-  pub json_is_of : (f : Form) (d : Datum) (j : Json) → HasJson f d j → IsOf f d
+  pub json_is_of : (f : ShapeTree) (d : Datum) (j : Json) → HasJson f d j → IsOf f d
   json_is_of unit d j h = h.0
   json_is_of flag d j h = (h.0, h.1)
   json_is_of unsigned d j h = (h.0, h.1)

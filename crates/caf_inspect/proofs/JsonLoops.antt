@@ -1,7 +1,7 @@
 -- Reading the parts of a value one after the other, as a loop does.
 use Rattle.std.proofs.Common.{◌≡◌, ℕ, ◌+◌, ◌<◌, List, [], ◌∷◌, ◌++◌, drop, get_or, length, Ok, Err, refl, sym, ap, ◌∙◌}
-use Rattle.caf_types.specs.Form.{Form}
-use Rattle.caf_types.specs.Shape.{form, parts, field_view, form_step, field_step}
+use Rattle.caf_types.specs.ShapeTree.{ShapeTree}
+use Rattle.caf_types.specs.Shape.{tree, parts, field_view, tree_step, field_step}
 use Rattle.caf_types.specs.declared.shape.Field.{Field}
 use Rattle.caf_types.specs.declared.shape.Shape.TheFolds.{fold_out-Field}
 use Rattle.serde_json.specs.Data.{Data as Json}
@@ -39,13 +39,13 @@ pub items_more : (one : Json → Read Datum) (n : ℕ) (items : List Value) (i :
 items_more one n items i it lt is = ap (λ xs. each_read one n (items_view xs)) (drop_more items i it lt ∙ ap (λ x. x ∷ drop (i + 1) items) (sym is))
 
 field_name : (f : Field) → (field_view f).0 ≡ f.name
-field_name f = ap (λ (p : List ℕ × Form). p.0) (fold_out-Field Form (List ℕ × Form) form_step field_step f)
+field_name f = ap (λ (p : List ℕ × ShapeTree). p.0) (fold_out-Field ShapeTree (List ℕ × ShapeTree) tree_step field_step f)
 
-field_shape : (f : Field) → (field_view f).1 ≡ form f.shape
-field_shape f = ap (λ (p : List ℕ × Form). p.1) (fold_out-Field Form (List ℕ × Form) form_step field_step f)
+field_shape : (f : Field) → (field_view f).1 ≡ tree f.shape
+field_shape f = ap (λ (p : List ℕ × ShapeTree). p.1) (fold_out-Field ShapeTree (List ℕ × ShapeTree) tree_step field_step f)
 
 pub fields_more : (fs : List Field) (i n : ℕ) (f : Field) (d : Json) → i < length fs → f ≡ get_or fs i f
-    → parts_read (parts (drop i fs)) n d ≡ then_more (inside n (member_read (unjson (form f.shape)) (get f.name d))) (parts_read (parts (drop (i + 1) fs)) (n + 1) d)
+    → parts_read (parts (drop i fs)) n d ≡ then_more (inside n (member_read (unjson (tree f.shape)) (get f.name d))) (parts_read (parts (drop (i + 1) fs)) (n + 1) d)
 fields_more fs i n f d lt is =
     ap (λ gs. parts_read (parts gs) n d) (drop_more fs i f lt ∙ ap (λ x. x ∷ drop (i + 1) fs) (sym is))
-    ∙ ap (λ (p : List ℕ × Form). then_more (inside n (member_read (unjson p.1) (get p.0 d))) (parts_read (parts (drop (i + 1) fs)) (n + 1) d)) (fold_out-Field Form (List ℕ × Form) form_step field_step f)
+    ∙ ap (λ (p : List ℕ × ShapeTree). then_more (inside n (member_read (unjson p.1) (get p.0 d))) (parts_read (parts (drop (i + 1) fs)) (n + 1) d)) (fold_out-Field ShapeTree (List ℕ × ShapeTree) tree_step field_step f)

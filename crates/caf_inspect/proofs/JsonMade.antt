@@ -9,7 +9,7 @@ use Rattle.std.specs.Ordering.{match_ordering}
 use Rattle.serde_json.specs.Data.{Data as Json, object as members_in, Members, no_members, member, put}
 use Rattle.serde_json.specs.Find.{get_member, as_i64, of_integer}
 use Rattle.serde_json.proofs.Views.{get_member-put, get_member-put_other}
-use Rattle.caf_types.specs.Form.{Form, unit, flag, unsigned, signed, text, bytes, place, list, object, Parts, no_parts, part}
+use Rattle.caf_types.specs.ShapeTree.{ShapeTree, unit, flag, unsigned, signed, text, bytes, place, list, object, Parts, no_parts, part}
 use Rattle.caf_words.specs.Datum.{Datum, Data, no_data, more}
 use Rattle.caf_inspect.specs.Event.{Event, events, each_events, part_events}
 use Rattle.caf_inspect.specs.JsonForm.{is_declared, are_declared, names_differ, parts_differ, HasJson, EachHasJson, PartsHaveJson}
@@ -31,7 +31,7 @@ none_of false b h = (refl, h)
 same : (k : List ℕ) → bytes_eq k k ≡ true
 same k = (bytes_eq-Decides k k).1 refl
 
-apart : (name q : List ℕ) (ps : Parts) (f : Form) → is_declared (part name f ps) q ≡ false → (q ≡ name → ⊥) × (is_declared ps q ≡ false)
+apart : (name q : List ℕ) (ps : Parts) (f : ShapeTree) → is_declared (part name f ps) q ≡ false → (q ≡ name → ⊥) × (is_declared ps q ≡ false)
 apart name q ps f h = go (bytes_eq name q) refl h
   where
     go : (b : Bool) → bytes_eq name q ≡ b → cond b true (is_declared ps q) ≡ false → (q ≡ name → ⊥) × (is_declared ps q ≡ false)
@@ -69,7 +69,7 @@ one_more : (b c : Bool) → c ≡ true → cond b true c ≡ true
 one_more true c h = refl
 one_more false c h = h
 
-wider : (n : List ℕ) (g : Form) (qs ps : Parts) → AllDeclared qs ps → AllDeclared (part n g qs) ps
+wider : (n : List ℕ) (g : ShapeTree) (qs ps : Parts) → AllDeclared qs ps → AllDeclared (part n g qs) ps
 wider n g qs no_parts h = tt
 wider n g qs (part name f ps) h = (one_more (bytes_eq n name) (is_declared qs name) h.0, wider n g qs ps h.1)
 
@@ -98,7 +98,7 @@ each_made P one form_of Q s (more d ds) h r =
     (form_of d, each_json form_of ds, s d h.0 p.0, each_made P one form_of Q s ds h.1 p.1, refl)
 
 mutual
-  pub made_has : (f : Form) (d : Datum) → IsOf f d → AreInRange (events f d) → names_differ f ≡ true → HasJson f d (json f d)
+  pub made_has : (f : ShapeTree) (d : Datum) → IsOf f d → AreInRange (events f d) → names_differ f ≡ true → HasJson f d (json f d)
   made_has unit d h r n = (h, ap (json unit) h)
   made_has flag d h r n = (h.0, h.1, ap (json flag) h.1)
   made_has unsigned d h r n = rw (h.1) (h.0, refl, refl)

@@ -1,7 +1,7 @@
 -- How the JSON loader starts.
 use Rattle.std.proofs.Common.{◌≡◌, Err}
 use Rattle.serde_json.specs.Data.{Data as Json}
-use Rattle.caf_types.specs.Form.{Form}
+use Rattle.caf_types.specs.ShapeTree.{ShapeTree}
 use Rattle.caf_inspect.specs.JsonForm.{HasJson}
 use Rattle.caf_inspect.specs.JsonReading.{unjson}
 use Rattle.caf_inspect.specs.LoadAnswer.{Fails, Refused}
@@ -9,6 +9,6 @@ use Rattle.caf_inspect.specs.declared.fault.LoadFault.{LoadFault}
 use Rattle.caf_inspect.specs.declared.fault.LoadFault.TheVariants as faults
 use Rattle.caf_inspect.proofs.JsonLaws.{no_form}
 
-pub refused : (f : Form) (j : Json) (fault : LoadFault) → Fails fault (unjson f j) → Refused (λ d. HasJson f d j) (λ path. unjson f j ≡ Err path) fault
+pub refused : (f : ShapeTree) (j : Json) (fault : LoadFault) → Fails fault (unjson f j) → Refused (λ d. HasJson f d j) (λ path. unjson f j ≡ Err path) fault
 refused f j faults.Memory h = tt
 refused f j (faults.Unfit path) h = (h, no_form f j path h)

@@ -1,7 +1,7 @@
 -- Adding the events of lists and objects to a queue.
 use Rattle.std.proofs.Common.{◌≡◌, List, [], ◌∷◌, ◌++◌, map, length, refl, ap, ◌∙◌, arith, append_assoc}
 use Rattle.std.proofs.lemmas.List.{map_push}
-use Rattle.caf_types.specs.Form.{count_parts}
+use Rattle.caf_types.specs.ShapeTree.{count_parts}
 use Rattle.caf_types.specs.Shape.{parts}
 use Rattle.caf_types.specs.declared.shape.Field.{Field}
 use Rattle.caf_words.specs.Datum.{data_of, count}

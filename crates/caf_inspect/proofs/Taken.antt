@@ -2,8 +2,8 @@
 use Rattle.std.proofs.Common.{◌≡◌, ℕ, suc, ◌+◌, true, List, [], ◌++◌, Some, None, bytes_eq, eq-eqb, refl, sym, ap, subst, ◌∙◌, append_assoc, arith}
 use Rattle.std.proofs.lemmas.List.{append-nil}
 use Rattle.std.proofs.lemmas.Slice.Eq.{bytes_eq-Decides}
-use Rattle.caf_types.specs.Form as form
-use Rattle.caf_types.specs.Form.{Form, Parts, no_parts, part, count_parts}
+use Rattle.caf_types.specs.ShapeTree as tree
+use Rattle.caf_types.specs.ShapeTree.{ShapeTree, Parts, no_parts, part, count_parts}
 use Rattle.caf_words.specs.Datum.{Datum, Data, no_data, more, count}
 use Rattle.caf_inspect.specs.Event.{Event, events, each_events, part_events}
 use Rattle.caf_inspect.specs.OfShape.{IsOf, PartsAre, AllAre}
@@ -25,16 +25,16 @@ same : (name : List ℕ) → bytes_eq name name ≡ true
 same name = (bytes_eq-Decides name name).1 refl
 
 mutual
-  pub all_again : (f : Form) (d : Datum) → IsOf f d → (rest : List Event) → taking f (events f d ++ rest) ≡ Some (d, rest)
-  all_again form.unit d h rest = rw h refl
-  all_again form.flag d h rest = rw (h.1) refl
-  all_again form.unsigned d h rest = rw (h.1) refl
-  all_again form.signed d h rest = rw (h.1) refl
-  all_again form.text d h rest = rw (h.1) refl
-  all_again form.bytes d h rest = rw (h.1) refl
-  all_again form.place d h rest = rw (h.2) refl
-  all_again (form.list f) d h rest = rw (h.2, many_again (IsOf f) (events f) (taking f) (all_again f) h.0 h.1 rest) refl
-  all_again (form.object ps) d h rest = rw (h.2, eq-eqb (count_parts ps) (count_parts ps) refl, parts_again ps h.0 h.1 rest) refl
+  pub all_again : (f : ShapeTree) (d : Datum) → IsOf f d → (rest : List Event) → taking f (events f d ++ rest) ≡ Some (d, rest)
+  all_again tree.unit d h rest = rw h refl
+  all_again tree.flag d h rest = rw (h.1) refl
+  all_again tree.unsigned d h rest = rw (h.1) refl
+  all_again tree.signed d h rest = rw (h.1) refl
+  all_again tree.text d h rest = rw (h.1) refl
+  all_again tree.bytes d h rest = rw (h.1) refl
+  all_again tree.place d h rest = rw (h.2) refl
+  all_again (tree.list f) d h rest = rw (h.2, many_again (IsOf f) (events f) (taking f) (all_again f) h.0 h.1 rest) refl
+  all_again (tree.object ps) d h rest = rw (h.2, eq-eqb (count_parts ps) (count_parts ps) refl, parts_again ps h.0 h.1 rest) refl
 
   parts_again : (ps : Parts) (ds : Data) → PartsAre ps ds → (rest : List Event) → taking_parts ps (part_events ps ds ++ rest) ≡ Some (ds, rest)
   parts_again no_parts ds h rest = rw h refl
@@ -42,7 +42,7 @@ mutual
       rw (h.4, same name) (more_again h.0 h.1 (events f h.0) (part_events ps h.1) rest (taking f) (taking_parts ps) (all_again f h.0 h.2 (part_events ps h.1 ++ rest)) (parts_again ps h.1 h.3 rest))
 
 -- a loader whose events are those of a value
-pub taken_whole : (f : Form) (d : Datum) (es : List Event) → IsOf f d → es ≡ events f d → taking f es ≡ Some (d, [])
+pub taken_whole : (f : ShapeTree) (d : Datum) (es : List Event) → IsOf f d → es ≡ events f d → taking f es ≡ Some (d, [])
 taken_whole f d es h e = ap (taking f) (e ∙ sym (append-nil (events f d))) ∙ all_again f d h []
 
 value_or : Datum → Took Datum → Datum
@@ -53,5 +53,5 @@ same_value : (d e : Datum) (es fs : List Event) → done d es ≡ done e fs → 
 unfolding value_or
 same_value d e es fs p = ap (value_or d) p
 
-pub meant : (f : Form) (d e : Datum) (es rest : List Event) → IsOf f d → es ≡ events f d → taking f es ≡ Some (e, rest) → e ≡ d
+pub meant : (f : ShapeTree) (d e : Datum) (es rest : List Event) → IsOf f d → es ≡ events f d → taking f es ≡ Some (e, rest) → e ≡ d
 meant f d e es rest h is took = same_value e d rest [] (sym took ∙ taken_whole f d es h is)

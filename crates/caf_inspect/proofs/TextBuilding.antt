@@ -1,6 +1,6 @@
 -- The events of a value write its text form.
 use Rattle.std.proofs.Common.{◌≡◌, ℕ, zero, suc, ◌+◌, List, [], ◌∷◌, ◌++◌, refl, sym, ap, subst, ◌∙◌, append_assoc, append-nil, arith}
-use Rattle.caf_types.specs.Form.{Form, unit, flag, unsigned, signed, text, bytes, place, list, object, Parts, no_parts, part, count_parts}
+use Rattle.caf_types.specs.ShapeTree.{ShapeTree, unit, flag, unsigned, signed, text, bytes, place, list, object, Parts, no_parts, part, count_parts}
 use Rattle.caf_words.specs.Datum.{Datum, Data, no_data, more, count}
 use Rattle.caf_text.specs.TextForm.{comma, colon, joined, text_form, fields_text}
 use Rattle.caf_inspect.specs.Event as event
@@ -39,7 +39,7 @@ items_built P one form_of g (more d ds) h (suc n) c fs t rest =
     ∙ items_built P one form_of g ds h.1 n (omega arith) fs ((t ++ form_of d) ++ comma) rest
     ∙ ap (λ x. steps (give fs x) rest) (next_item t (form_of d) comma (joined form_of [] ds) (93 ∷ []) ∙ ap (λ y. t ++ ((form_of d ++ y) ++ 93 ∷ [])) (sym (joined_comma form_of ds n (omega arith)))))
 
-list_built : (f : Form) → Builds (IsOf f) (events f) (text_form f) → (ds : Data) → AllAre (IsOf f) ds → (fs : List Frame) (t : List ℕ) (rest : List Event)
+list_built : (f : ShapeTree) → Builds (IsOf f) (events f) (text_form f) → (ds : Data) → AllAre (IsOf f) ds → (fs : List Frame) (t : List ℕ) (rest : List Event)
     → steps (step (state fs t) (event.list (count ds))) (each_events (events f) ds ++ rest) ≡ steps (give fs (t ++ 91 ∷ (joined (text_form f) [] ds ++ 93 ∷ []))) rest
 list_built f g no_data h fs t rest = refl
 list_built f g (more d ds) h fs t rest =
@@ -75,7 +75,7 @@ next_field t name f c j x =
     ∙ next_item t (name ++ (colon ++ f)) c j x
     ∙ ap (λ y. t ++ (y ++ x)) (append_assoc name (colon ++ f) (c ++ j) ∙ ap (λ y. name ++ y) (append_assoc colon f (c ++ j)))
 
-part_built : (name : List ℕ) (f : Form) (ps : Parts) → Builds (IsOf f) (events f) (text_form f) → PartsBuild ps
+part_built : (name : List ℕ) (f : ShapeTree) (ps : Parts) → Builds (IsOf f) (events f) (text_form f) → PartsBuild ps
     → (d : Datum) (ds : Data) → IsOf f d → PartsAre ps ds → (n : ℕ) → count (more d ds) ≡ n + 1 → (fs : List Frame) (t : List ℕ) (rest : List Event)
     → steps (state (in_object n ∷ fs) t) (part_events (part name f ps) (more d ds) ++ rest) ≡ steps (give fs (t ++ (fields_text (part name f ps) [] (more d ds) ++ 125 ∷ []))) rest
 part_built name f ps g k d no_data h hs zero c fs t rest =
@@ -99,7 +99,7 @@ object_built ps k (more d ds) h fs t rest =
     rw n (k (more d ds) h (count ds) refl fs (t ++ 123 ∷ []) rest ∙ ap (λ x. steps (give fs x) rest) (append_assoc t (123 ∷ []) (fields_text ps [] (more d ds) ++ 125 ∷ [])))
 
 mutual
-  pub all_built : (f : Form) → Builds (IsOf f) (events f) (text_form f)
+  pub all_built : (f : ShapeTree) → Builds (IsOf f) (events f) (text_form f)
   all_built unit d h fs t rest = rw h refl
   all_built flag d h fs t rest = rw (h.1) refl
   all_built unsigned d h fs t rest = rw (h.1) refl
@@ -120,6 +120,6 @@ text_in : State → List ℕ
 text_in (state fs t) = t
 
 -- a saver that was told the events of one value holds its form
-pub built_whole : (f : Form) (d : Datum) (fs : List Frame) (t : List ℕ) → IsOf f d → state fs t ≡ steps (state [] []) (events f d) → t ≡ text_form f d
+pub built_whole : (f : ShapeTree) (d : Datum) (fs : List Frame) (t : List ℕ) → IsOf f d → state fs t ≡ steps (state [] []) (events f d) → t ≡ text_form f d
 unfolding text_in
 built_whole f d fs t h is = ap text_in (is ∙ ap (steps (state [] [])) (sym (append-nil (events f d))) ∙ all_built f d h [] [] [])

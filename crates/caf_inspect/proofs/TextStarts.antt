@@ -1,6 +1,6 @@
 -- What the text loader answers.
 use Rattle.std.proofs.Common.{ℕ, List}
-use Rattle.caf_types.specs.Form.{Form, unit, flag, unsigned, signed, text, bytes, place, list, object, Parts, no_parts, part}
+use Rattle.caf_types.specs.ShapeTree.{ShapeTree, unit, flag, unsigned, signed, text, bytes, place, list, object, Parts, no_parts, part}
 use Rattle.caf_words.specs.Datum.{Datum, Data, no_data, more}
 use Rattle.caf_text.specs.Answer.{IsNoForm}
 use Rattle.caf_text.specs.TextForm as texts
@@ -12,7 +12,7 @@ use Rattle.caf_inspect.specs.OfShape.{IsOf, PartsAre, AllAre}
 use Rattle.caf_inspect.specs.declared.fault.LoadFault.{LoadFault}
 use Rattle.caf_inspect.specs.declared.fault.LoadFault.TheVariants as faults
 
-pub text_refused : (f : Form) (input : List ℕ) (fault : TextFault) (answer : LoadFault) → IsNoForm fault f input → AtLength fault answer → Refused (λ d. HasText f d input) (TextFailsAt f input) answer
+pub text_refused : (f : ShapeTree) (input : List ℕ) (fault : TextFault) (answer : LoadFault) → IsNoForm fault f input → AtLength fault answer → Refused (λ d. HasText f d input) (TextFailsAt f input) answer
 text_refused f input fault faults.Memory h is = tt
 text_refused f input found.Memory (faults.Unfit path) h is = absurd is
 text_refused f input (found.At n) (faults.Unfit path) h is = ((n, is, h.0), h.1)
@@ -22,7 +22,7 @@ each_is V P one no_data h = tt
 each_is V P one (more d ds) h = (one d h.0, each_is V P one ds h.1)
 
 mutual
-  pub value_is_of : (f : Form) (d : Datum) → IsValue f d → IsOf f d
+  pub value_is_of : (f : ShapeTree) (d : Datum) → IsValue f d → IsOf f d
   value_is_of unit d h = h
   value_is_of flag d h = h
   value_is_of unsigned d h = (h.0, h.2)

@@ -1,6 +1,6 @@
 -- The values that a saver was told are those of which texts are the forms.
 use Rattle.std.proofs.Common.{List, [], ◌∷◌, ◌++◌, subst}
-use Rattle.caf_types.specs.Form.{Form, unit, flag, unsigned, signed, text, bytes, place, list, object, Parts, no_parts, part}
+use Rattle.caf_types.specs.ShapeTree.{ShapeTree, unit, flag, unsigned, signed, text, bytes, place, list, object, Parts, no_parts, part}
 use Rattle.caf_words.specs.Datum.{Datum, Data, no_data, more}
 use Rattle.caf_text.specs.TextForm as texts
 use Rattle.caf_text.specs.TextForm.{IsValue, AreValues}
@@ -17,7 +17,7 @@ each_value P V one g no_data h r = tt
 each_value P V one g (more d ds) h r = let p = front_in (one d) (each_events one ds) r in (g d h.0 p.0, each_value P V one g ds h.1 p.1)
 
 mutual
-  pub is_value : (f : Form) (d : Datum) → IsOf f d → AreInRange (events f d) → IsValue f d
+  pub is_value : (f : ShapeTree) (d : Datum) → IsOf f d → AreInRange (events f d) → IsValue f d
   is_value unit d h r = h
   is_value flag d h r = h
   is_value unsigned d h r = let q = subst (λ x. AreInRange (events unsigned x)) h.1 r in (h.0, q.0, h.1)

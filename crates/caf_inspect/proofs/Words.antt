@@ -2,8 +2,8 @@
 use Rattle.std.proofs.Common.{◌≡◌, ℕ, ◌<◌, ◌^◌, List, [], ◌∷◌, ◌++◌, refl, sym, ap, subst, ◌∙◌, arith}
 use Rattle.std.proofs.lemmas.List.{append-nil}
 use Rattle.std.proofs.lemmas.List.Concat.{flat_map-append}
-use Rattle.caf_types.specs.Form as form
-use Rattle.caf_types.specs.Form.{Form, Parts, no_parts, part, count_parts}
+use Rattle.caf_types.specs.ShapeTree as tree
+use Rattle.caf_types.specs.ShapeTree.{ShapeTree, Parts, no_parts, part, count_parts}
 use Rattle.caf_words.specs.Datum.{Datum, a_text, some_bytes, Data, no_data, more, count}
 use Rattle.caf_words.specs.Spelling.{spelling, spellings, Spells, EachSpells, PartsSpell}
 use Rattle.caf_inspect.specs.Event.{Event, events, each_events, part_events}
@@ -23,16 +23,16 @@ count_of no_parts ds h = ap count h
 count_of (part name f ps) ds h = ap count h.4 ∙ (let e = count_of ps h.1 h.3 in omega (arith, e))
 
 mutual
-  pub all_saved : (f : Form) (d : Datum) → IsOf f d → all_words (events f d) ≡ spelling d
-  all_saved form.unit d h = rw h refl
-  all_saved form.flag d h = rw (h.1) refl
-  all_saved form.unsigned d h = rw (h.1) refl
-  all_saved form.signed d h = rw (h.1) refl
-  all_saved form.text d h = rw (h.1) (append-nil (spelling (a_text h.0)))
-  all_saved form.bytes d h = rw (h.1) (append-nil (spelling (some_bytes h.0)))
-  all_saved form.place d h = rw (h.2) refl
-  all_saved (form.list f) d h = rw (h.2) (ap (λ (ws : List ℕ). count h.0 ∷ ws) (each_saved (IsOf f) (events f) (all_saved f) h.0 h.1))
-  all_saved (form.object ps) d h =
+  pub all_saved : (f : ShapeTree) (d : Datum) → IsOf f d → all_words (events f d) ≡ spelling d
+  all_saved tree.unit d h = rw h refl
+  all_saved tree.flag d h = rw (h.1) refl
+  all_saved tree.unsigned d h = rw (h.1) refl
+  all_saved tree.signed d h = rw (h.1) refl
+  all_saved tree.text d h = rw (h.1) (append-nil (spelling (a_text h.0)))
+  all_saved tree.bytes d h = rw (h.1) (append-nil (spelling (some_bytes h.0)))
+  all_saved tree.place d h = rw (h.2) refl
+  all_saved (tree.list f) d h = rw (h.2) (ap (λ (ws : List ℕ). count h.0 ∷ ws) (each_saved (IsOf f) (events f) (all_saved f) h.0 h.1))
+  all_saved (tree.object ps) d h =
       rw (h.2) (ap (λ (ws : List ℕ). count_parts ps ∷ ws) (parts_saved ps h.0 h.1) ∙ ap (λ k. k ∷ spellings h.0) (sym (count_of ps h.0 h.1)))
 
   parts_saved : (ps : Parts) (ds : Data) → PartsAre ps ds → all_words (part_events ps ds) ≡ spellings ds
@@ -53,19 +53,19 @@ each_spells P S one s (more d ds) h r =
     (spelling d, spellings ds, s d h.0 p.0, each_spells P S one s ds h.1 p.1, refl)
 
 mutual
-  pub all_spell : (f : Form) (d : Datum) → IsOf f d → AreInRange (events f d) → Spells f d (spelling d)
-  all_spell form.unit d h r = (h, ap spelling h)
-  all_spell form.flag d h r = (h.0, h.1, ap spelling h.1)
-  all_spell form.unsigned d h r = let q = subst (λ x. AreInRange (events form.unsigned x)) h.1 r in (h.0, q.0, h.1, ap spelling h.1)
-  all_spell form.signed d h r = let q = subst (λ x. AreInRange (events form.signed x)) h.1 r in (h.0, q.0, h.1, ap spelling h.1)
-  all_spell form.text d h r = let q = subst (λ x. AreInRange (events form.text x)) h.1 r in (h.0, q.0.0, q.0.1, q.0.2, h.1, ap spelling h.1)
-  all_spell form.bytes d h r = let q = subst (λ x. AreInRange (events form.bytes x)) h.1 r in (h.0, q.0.0, q.0.1, h.1, ap spelling h.1)
-  all_spell form.place d h r = (h.0, h.1, h.2, ap spelling h.2)
-  all_spell (form.list f) d h r =
-      let q = subst (λ x. AreInRange (events (form.list f) x)) h.2 r in
+  pub all_spell : (f : ShapeTree) (d : Datum) → IsOf f d → AreInRange (events f d) → Spells f d (spelling d)
+  all_spell tree.unit d h r = (h, ap spelling h)
+  all_spell tree.flag d h r = (h.0, h.1, ap spelling h.1)
+  all_spell tree.unsigned d h r = let q = subst (λ x. AreInRange (events tree.unsigned x)) h.1 r in (h.0, q.0, h.1, ap spelling h.1)
+  all_spell tree.signed d h r = let q = subst (λ x. AreInRange (events tree.signed x)) h.1 r in (h.0, q.0, h.1, ap spelling h.1)
+  all_spell tree.text d h r = let q = subst (λ x. AreInRange (events tree.text x)) h.1 r in (h.0, q.0.0, q.0.1, q.0.2, h.1, ap spelling h.1)
+  all_spell tree.bytes d h r = let q = subst (λ x. AreInRange (events tree.bytes x)) h.1 r in (h.0, q.0.0, q.0.1, h.1, ap spelling h.1)
+  all_spell tree.place d h r = (h.0, h.1, h.2, ap spelling h.2)
+  all_spell (tree.list f) d h r =
+      let q = subst (λ x. AreInRange (events (tree.list f) x)) h.2 r in
       (h.0, q.0, h.2, spellings h.0, each_spells (IsOf f) (Spells f) (events f) (all_spell f) h.0 h.1 q.1, ap spelling h.2)
-  all_spell (form.object ps) d h r =
-      let q = subst (λ x. AreInRange (events (form.object ps) x)) h.2 r in
+  all_spell (tree.object ps) d h r =
+      let q = subst (λ x. AreInRange (events (tree.object ps) x)) h.2 r in
       (h.0, subst (λ k. k < 2 ^ 64) (sym (count_of ps h.0 h.1)) q.0, h.2, spellings h.0, parts_spell ps h.0 h.1 q.1, ap spelling h.2)
 
   parts_spell : (ps : Parts) (ds : Data) → PartsAre ps ds → AreInRange (part_events ps ds) → PartsSpell ps ds (spellings ds)

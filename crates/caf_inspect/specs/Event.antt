@@ -1,7 +1,7 @@
 -- What a value is told as: its events, in order.
 use Rattle.std.specs.Prelude.{ℕ, ℤ, Bool, List, [], ◌∷◌, ◌++◌}
-use Rattle.caf_types.specs.Form as form
-use Rattle.caf_types.specs.Form.{Form, Parts, no_parts, part, count_parts}
+use Rattle.caf_types.specs.ShapeTree as tree
+use Rattle.caf_types.specs.ShapeTree.{ShapeTree, Parts, no_parts, part, count_parts}
 use Rattle.caf_words.specs.Datum.{Datum, a_unit, a_flag, an_unsigned, a_signed, a_text, some_bytes, a_place, a_list, an_object, Data, no_data, more, count}
 
 pub data Event : Type 0 where
@@ -48,9 +48,9 @@ field_events name one others no_data = []
 field_events name one others (more d ds) = field name ∷ (one d ++ others ds)
 
 abbrev mutual
-  pub events : Form → Datum → List Event
-  events (form.list f) = list_events (each_events (events f))
-  events (form.object ps) = object_events (count_parts ps) (part_events ps)
+  pub events : ShapeTree → Datum → List Event
+  events (tree.list f) = list_events (each_events (events f))
+  events (tree.object ps) = object_events (count_parts ps) (part_events ps)
   events _ = scalar_events
 
   pub part_events : Parts → Data → List Event

@@ -3,7 +3,7 @@ use Rattle.std.specs.Prelude.{◌≡◌, ℕ, ◌<◌, ℤ, Bool, true, false, i
 use Rattle.hex.specs.Hex.{encode_lower}
 use Rattle.serde_json.specs.Data.{Data as Json, null, boolean, string, array, object as members_in, Items, no_items, item, Members, no_members, member}
 use Rattle.serde_json.specs.Find.{get, as_number, as_u64, as_i64}
-use Rattle.caf_types.specs.Form.{Form, unit, flag, unsigned, signed, text, bytes, place, list, object, Parts, no_parts, part}
+use Rattle.caf_types.specs.ShapeTree.{ShapeTree, unit, flag, unsigned, signed, text, bytes, place, list, object, Parts, no_parts, part}
 use Rattle.caf_words.specs.Spelling.{AreBytes}
 use Rattle.caf_words.specs.Datum.{Datum, a_unit, a_flag, an_unsigned, a_signed, a_text, some_bytes, a_place, a_list, an_object, Data, no_data, more}
 
@@ -28,7 +28,7 @@ EachHasJson P no_data js = js ≡ no_items
 EachHasJson P (more d ds) js = (j : Json) × (rest : Items) × P d j × EachHasJson P ds rest × (js ≡ item j rest)
 
 abbrev mutual
-  pub HasJson : Form → Datum → Json → Type 0
+  pub HasJson : ShapeTree → Datum → Json → Type 0
   HasJson unit d j = (d ≡ a_unit) × (j ≡ null)
   HasJson flag d j = (b : Bool) × (d ≡ a_flag b) × (j ≡ boolean b)
   HasJson unsigned d j = (n : ℕ) × (d ≡ an_unsigned n) × (unsigned_in j ≡ Some n)
@@ -47,7 +47,7 @@ abbrev mutual
 -- ---- no two fields of one object have the same name
 
 abbrev mutual
-  pub names_differ : Form → Bool
+  pub names_differ : ShapeTree → Bool
   names_differ (list f) = names_differ f
   names_differ (object ps) = parts_differ ps
   names_differ _ = true

@@ -2,7 +2,7 @@
 use Rattle.std.specs.Prelude.{ℕ, ◌+◌, nat_lt, if◌then◌else◌, Bool, true, false, List, [], ◌∷◌, Option, Some, None, option_and_then, Result, Ok, Err}
 use Rattle.serde_json.specs.Data.{Data as Json, Items, no_items, item, Members}
 use Rattle.serde_json.specs.Find.{get, as_null, as_bool, as_str, as_array, as_object}
-use Rattle.caf_types.specs.Form.{Form, unit, flag, unsigned, signed, text, bytes, place, list, object, Parts, no_parts, part}
+use Rattle.caf_types.specs.ShapeTree.{ShapeTree, unit, flag, unsigned, signed, text, bytes, place, list, object, Parts, no_parts, part}
 use Rattle.caf_words.specs.Datum.{Datum, a_unit, a_flag, an_unsigned, a_signed, a_text, some_bytes, a_place, a_list, an_object, Data, no_data, more}
 use Rattle.caf_inspect.specs.Hex.{unhex}
 use Rattle.caf_inspect.specs.JsonForm.{unsigned_in, signed_in, are_declared}
@@ -54,7 +54,7 @@ object_read test fields None = Err []
 object_read test fields (Some ms) = fields >>= no_others (test ms)
 
 abbrev mutual
-  pub unjson : Form → Json → Read Datum
+  pub unjson : ShapeTree → Json → Read Datum
   unjson unit = λ j. found (λ _. a_unit) (as_null j)
   unjson flag = λ j. found a_flag (as_bool j)
   unjson unsigned = λ j. found an_unsigned (unsigned_in j)

@@ -4,8 +4,8 @@ use Rattle.hex.specs.Hex.{encode_lower}
 use Rattle.serde_json.specs.Data.{unsigned, Data as Json, null, boolean, number, string, array, object, Items, no_items, item, Members, no_members, put}
 use Rattle.serde_json.specs.Find.{of_integer}
 use Rattle.serde_json.specs.View.{items_of}
-use Rattle.caf_types.specs.Form as form
-use Rattle.caf_types.specs.Form.{Form, Parts, no_parts, part}
+use Rattle.caf_types.specs.ShapeTree as tree
+use Rattle.caf_types.specs.ShapeTree.{ShapeTree, Parts, no_parts, part}
 use Rattle.caf_words.specs.Datum.{Datum, a_flag, an_unsigned, a_signed, a_text, some_bytes, a_place, a_list, an_object, Data, no_data, more}
 use Rattle.caf_inspect.specs.Event as event
 use Rattle.caf_inspect.specs.Event.{Event}
@@ -38,9 +38,9 @@ object_json fields (an_object ds) = object (fields ds no_members)
 object_json fields _ = null
 
 abbrev mutual
-  pub json : Form → Datum → Json
-  json (form.list f) = list_json (each_json (json f))
-  json (form.object ps) = object_json (members_json ps)
+  pub json : ShapeTree → Datum → Json
+  json (tree.list f) = list_json (each_json (json f))
+  json (tree.object ps) = object_json (members_json ps)
   json _ = scalar_json
 
   pub members_json : Parts → Data → Members → Members

@@ -5,7 +5,7 @@ use Rattle.caf_words.specs.declared.stop.SpellFault.TheVariants as spell
 use Rattle.caf_text.specs.Front.{IsLongestFront}
 use Rattle.caf_text.specs.declared.stop.TextFault.{TextFault}
 use Rattle.caf_text.specs.declared.stop.TextFault.TheVariants as text
-use Rattle.caf_types.specs.Form.{Form}
+use Rattle.caf_types.specs.ShapeTree.{ShapeTree}
 use Rattle.caf_types.specs.Table.{Table}
 use Rattle.caf_words.specs.Datum.{Datum}
 use Rattle.caf_words.specs.Several.{whole_reading}
@@ -30,7 +30,7 @@ abbrev pub Refused : (Datum → Type 0) → (List ℕ → Type 0) → LoadFault 
 Refused Has At faults.Memory = Unit {0}
 Refused Has At (faults.Unfit path) = At path × ((d : Datum) → Has d → ⊥)
 
-abbrev pub Started : {L : Type 0} → (L → List Event) → Form → (Datum → Type 0) → (List ℕ → Type 0) → Result L LoadFault → Type 0
+abbrev pub Started : {L : Type 0} → (L → List Event) → ShapeTree → (Datum → Type 0) → (List ℕ → Type 0) → Result L LoadFault → Type 0
 Started left f Has At (Ok loader) = (d : Datum) × Has d × (left loader ≡ events f d)
 Started left f Has At (Err fault) = Refused Has At fault
 
@@ -45,7 +45,7 @@ Placed spell.Memory (faults.Unfit path) = ⊥
 Placed (spell.At place) (faults.Unfit path) = path ≡ place ∷ []
 
 -- the length of the longest front of the text that is the front of some text form of the shape
-abbrev pub TextFailsAt : Form → List ℕ → List ℕ → Type 0
+abbrev pub TextFailsAt : ShapeTree → List ℕ → List ℕ → Type 0
 TextFailsAt f input path = (n : ℕ) × (path ≡ n ∷ []) × IsLongestFront f input n
 
 -- a length in bytes as a path

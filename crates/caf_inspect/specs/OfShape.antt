@@ -1,6 +1,6 @@
 -- Which values are of a shape: one case a shape.
 use Rattle.std.specs.Prelude.{◌≡◌, ℕ, ◌<◌, ℤ, Bool, List}
-use Rattle.caf_types.specs.Form.{Form, unit, flag, unsigned, signed, text, bytes, place, list, object, Parts, no_parts, part}
+use Rattle.caf_types.specs.ShapeTree.{ShapeTree, unit, flag, unsigned, signed, text, bytes, place, list, object, Parts, no_parts, part}
 use Rattle.caf_words.specs.Datum.{Datum, a_unit, a_flag, an_unsigned, a_signed, a_text, some_bytes, a_place, a_list, an_object, Data, no_data, more}
 
 abbrev pub AllAre : (Datum → Type 0) → Data → Type 0
@@ -8,7 +8,7 @@ AllAre P no_data = Unit {0}
 AllAre P (more d ds) = P d × AllAre P ds
 
 abbrev mutual
-  pub IsOf : Form → Datum → Type 0
+  pub IsOf : ShapeTree → Datum → Type 0
   IsOf unit d = d ≡ a_unit
   IsOf flag d = (b : Bool) × (d ≡ a_flag b)
   IsOf unsigned d = (n : ℕ) × (d ≡ an_unsigned n)

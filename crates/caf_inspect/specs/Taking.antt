@@ -1,7 +1,7 @@
 -- Taking a value of a shape from the front of events.
 use Rattle.std.specs.Prelude.{ℕ, zero, suc, ◌==◌, Bool, true, false, ℤ, List, [], ◌∷◌, Option, Some, None, bytes_eq}
-use Rattle.caf_types.specs.Form as form
-use Rattle.caf_types.specs.Form.{Form, Parts, no_parts, part, count_parts}
+use Rattle.caf_types.specs.ShapeTree as tree
+use Rattle.caf_types.specs.ShapeTree.{ShapeTree, Parts, no_parts, part, count_parts}
 use Rattle.caf_words.specs.Datum.{Datum, a_unit, a_flag, an_unsigned, a_signed, a_text, some_bytes, a_place, a_list, an_object, Data, no_data, more}
 use Rattle.caf_inspect.specs.Event.{Event, unit, flag, unsigned, signed, text, bytes, place, list, object, field}
 
@@ -86,16 +86,16 @@ abbrev pub counted : ℕ → ℕ → Option (Unit {0})
 counted n m = so (n == m)
 
 abbrev mutual
-  pub taking : Form → List Event → Took Datum
-  taking form.unit es = next unit_in es >>= λ _ es. done a_unit es
-  taking form.flag es = next flag_in es >>= λ b es. done (a_flag b) es
-  taking form.unsigned es = next unsigned_in es >>= λ n es. done (an_unsigned n) es
-  taking form.signed es = next signed_in es >>= λ z es. done (a_signed z) es
-  taking form.text es = next text_in es >>= λ bs es. done (a_text bs) es
-  taking form.bytes es = next bytes_in es >>= λ bs es. done (some_bytes bs) es
-  taking form.place es = next place_in es >>= λ n es. done (a_place n) es
-  taking (form.list f) es = next list_in es >>= λ n es. many (taking f) n es >>= λ ds es. done (a_list ds) es
-  taking (form.object ps) es =
+  pub taking : ShapeTree → List Event → Took Datum
+  taking tree.unit es = next unit_in es >>= λ _ es. done a_unit es
+  taking tree.flag es = next flag_in es >>= λ b es. done (a_flag b) es
+  taking tree.unsigned es = next unsigned_in es >>= λ n es. done (an_unsigned n) es
+  taking tree.signed es = next signed_in es >>= λ z es. done (a_signed z) es
+  taking tree.text es = next text_in es >>= λ bs es. done (a_text bs) es
+  taking tree.bytes es = next bytes_in es >>= λ bs es. done (some_bytes bs) es
+  taking tree.place es = next place_in es >>= λ n es. done (a_place n) es
+  taking (tree.list f) es = next list_in es >>= λ n es. many (taking f) n es >>= λ ds es. done (a_list ds) es
+  taking (tree.object ps) es =
       next object_in es >>= λ n es. given (counted n (count_parts ps)) es >>= λ _ es. taking_parts ps es >>= λ ds es. done (an_object ds) es
 
   pub taking_parts : Parts → List Event → Took Data

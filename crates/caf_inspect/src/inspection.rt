@@ -1,5 +1,5 @@
 ghost use Rattle.std.specs.Prelude.{◌≡◌, ℕ, true, Some, is_some, IsTrue, IfOk, OnOk};
-ghost use Rattle.caf_types.specs.Form.{Form};
+ghost use Rattle.caf_types.specs.ShapeTree.{ShapeTree};
 ghost use Rattle.caf_words.specs.Datum.{Datum, fits};
 ghost use Rattle.caf_inspect.specs.Event.{events};
 ghost use Rattle.caf_inspect.specs.Taking.{taking};
@@ -15,7 +15,7 @@ use std::alloc::Global;
 /// inspection).
 pub trait Inspect: Sized {
     /// The shape, the same for every value of the type.
-    ghost shape: { Form };
+    ghost shape: { ShapeTree };
 
     /// The value of that shape.
     ghost means: { Self → Datum };

@@ -1,7 +1,7 @@
 ghost use Rattle.std.specs.Prelude.{◌≡◌, Some, Err, is_some, IsTrue};
 ghost use Rattle.serde_json.specs.View.{view};
-ghost use Rattle.caf_types.specs.Form.{Form};
-ghost use Rattle.caf_types.specs.Shape.{form};
+ghost use Rattle.caf_types.specs.ShapeTree.{ShapeTree};
+ghost use Rattle.caf_types.specs.Shape.{tree};
 ghost use Rattle.caf_types.specs.Table.{shape_at};
 ghost use Rattle.caf_types.specs.TypeTable.{seen};
 ghost use Rattle.caf_inspect.specs.JsonForm.{HasJson};
@@ -36,7 +36,7 @@ impl JsonLoader {
         json: &Json,
     ) -> Result<JsonLoader, LoadFault>
         requires { IsTrue (is_some (shape_at (seen table.now) id.0)) }
-        ensures { (f : Form) → shape_at (seen table.now) id.0 ≡ Some f →
+        ensures { (f : ShapeTree) → shape_at (seen table.now) id.0 ≡ Some f →
             Started json_left f (λ d. HasJson f d (view json.now)) (λ path. unjson f (view json.now) ≡ Err path) result }
     {
         match table.shape(id) {
@@ -47,7 +47,7 @@ impl JsonLoader {
 }
 
 fn read_json(alloc: Global, shape: &Shape, json: &Json) -> Result<JsonLoader, LoadFault>
-    ensures { Started json_left (form shape.now) (λ d. HasJson (form shape.now) d (view json.now)) (λ path. unjson (form shape.now) (view json.now) ≡ Err path) result }
+    ensures { Started json_left (tree shape.now) (λ d. HasJson (tree shape.now) d (view json.now)) (λ path. unjson (tree shape.now) (view json.now) ≡ Err path) result }
 {
     match value_of(alloc, shape, json) {
         Ok(value) => {

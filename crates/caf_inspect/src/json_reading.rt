@@ -1,5 +1,5 @@
 ghost use Rattle.std.specs.Prelude.{◌≡◌, ◌∷◌, [], map, List, ℕ, Result, Err};
-ghost use Rattle.caf_types.specs.Shape.{form, parts};
+ghost use Rattle.caf_types.specs.Shape.{tree, parts};
 ghost use Rattle.caf_words.specs.Datum.{Datum, data_of, a_list, an_object, some_bytes, a_place};
 ghost use Rattle.caf_words.specs.Value.{datum};
 ghost use Rattle.serde_json.specs.View.{view, items_view, members_view};
@@ -82,7 +82,7 @@ fn place_of(alloc: Global, json: &Json) -> Result<u32, LoadFault>
 /// its shape.
 #[cycle(unjson)]
 pub(crate) fn value_of(alloc: Global, shape: &Shape, json: &Json) -> Result<Value, LoadFault>
-    ensures { Gives (λ v. datum v) result (unjson (form shape.now) (view json.now)) }
+    ensures { Gives (λ v. datum v) result (unjson (tree shape.now) (view json.now)) }
 {
     match shape {
         Shape::Unit => match json.as_null() {
@@ -118,7 +118,7 @@ pub(crate) fn value_of(alloc: Global, shape: &Shape, json: &Json) -> Result<Valu
 
 #[cycle(unjson)]
 fn list_of(alloc: Global, shape: &Shape, json: &Json) -> Result<Vec<Value>, LoadFault>
-    ensures { Gives (λ v. a_list (data_of (map datum v.items))) result (list_read (each_read (unjson (form shape.now)) 0) (as_array (view json.now))) }
+    ensures { Gives (λ v. a_list (data_of (map datum v.items))) result (list_read (each_read (unjson (tree shape.now)) 0) (as_array (view json.now))) }
 {
     match json.as_array() {
         None => Err(unfit(alloc)),
@@ -131,7 +131,7 @@ fn list_of(alloc: Global, shape: &Shape, json: &Json) -> Result<Vec<Value>, Load
 
 #[cycle(unjson)]
 fn items_of(alloc: Global, shape: &Shape, items: &[Json]) -> Result<Vec<Value>, LoadFault>
-    ensures { Gives (λ v. data_of (map datum v.items)) result (each_read (unjson (form shape.now)) 0 (items_view items.now)) }
+    ensures { Gives (λ v. data_of (map datum v.items)) result (each_read (unjson (tree shape.now)) 0 (items_view items.now)) }
 {
     let mut values = Vec::new(alloc);
     for (i, item) in items.iter().enumerate() {

@@ -3,7 +3,7 @@ ghost use Rattle.serde_json.specs.Data.{null, boolean, number, string, unsigned,
 ghost use Rattle.serde_json.specs.Find.{of_integer};
 ghost use Rattle.serde_json.specs.View.{view, members_view};
 ghost use Rattle.hex.specs.Hex.{encode_lower};
-ghost use Rattle.caf_types.specs.Form.{Form};
+ghost use Rattle.caf_types.specs.ShapeTree.{ShapeTree};
 ghost use Rattle.caf_words.specs.Datum.{Datum, fits};
 ghost use Rattle.caf_inspect.specs.Event.{events};
 ghost use Rattle.caf_inspect.specs.JsonForm.{HasJson, names_differ};
@@ -184,9 +184,9 @@ impl JsonSaver {
 
     /// The JSON form of the one value that was saved. It takes no memory.
     pub fn finish(self) -> Json
-        requires { (f : Form) × (d : Datum) × (fits f d ≡ true) × SavesJson self (events f d) }
-        ensures form { (f : Form) → (d : Datum) → fits f d ≡ true → SavesJson self (events f d) → view result ≡ json f d }
-        ensures has { (f : Form) → (d : Datum) → fits f d ≡ true → SavesJson self (events f d) → names_differ f ≡ true → HasJson f d (view result) }
+        requires { (f : ShapeTree) × (d : Datum) × (fits f d ≡ true) × SavesJson self (events f d) }
+        ensures form { (f : ShapeTree) → (d : Datum) → fits f d ≡ true → SavesJson self (events f d) → view result ≡ json f d }
+        ensures has { (f : ShapeTree) → (d : Datum) → fits f d ≡ true → SavesJson self (events f d) → names_differ f ≡ true → HasJson f d (view result) }
     {
         self.last
     }

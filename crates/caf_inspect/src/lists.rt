@@ -1,5 +1,5 @@
 ghost use Rattle.std.specs.Prelude.{◌≡◌, map, Some, is_some, IsTrue, IfOk, OnOk};
-ghost use Rattle.caf_types.specs.Form as form;
+ghost use Rattle.caf_types.specs.ShapeTree as tree;
 ghost use Rattle.caf_words.specs.Datum.{data_of, a_list};
 ghost use Rattle.caf_inspect.specs.Event.{events, each_events};
 ghost use Rattle.caf_inspect.specs.Taking.{taking, many};
@@ -11,7 +11,7 @@ use std::alloc::Global;
 
 /// Tells the events of a list of values.
 pub fn save_list<T: Inspect, S: Save>(items: &Seq<T>, saver: &mut S) -> Result<(), Memory>
-    ensures { OnOk result (Tells S.told saver.old saver.new (events (form.list T.shape) (a_list (data_of (map T.means items.now))))) }
+    ensures { OnOk result (Tells S.told saver.old saver.new (events (tree.list T.shape) (a_list (data_of (map T.means items.now))))) }
 {
     saver.list(items.len())?;
     save_each(items.as_slice(), saver)?;
@@ -32,8 +32,8 @@ pub fn load_list<T: Inspect + Drop, L: Load>(
     alloc: Global,
     loader: &mut L,
 ) -> Result<Seq<T>, Memory>
-    requires { IsTrue (is_some (taking (form.list T.shape) (L.left loader.old))) }
-    ensures { IfOk result (λ items. taking (form.list T.shape) (L.left loader.old) ≡ Some (a_list (data_of (map T.means items)), L.left loader.new)) }
+    requires { IsTrue (is_some (taking (tree.list T.shape) (L.left loader.old))) }
+    ensures { IfOk result (λ items. taking (tree.list T.shape) (L.left loader.old) ≡ Some (a_list (data_of (map T.means items)), L.left loader.new)) }
 {
     let count = loader.list();
     let items = load_each(alloc, count, loader)?;

@@ -1,8 +1,8 @@
 ghost use Rattle.std.specs.Prelude.{◌≡◌, ◌∷◌, ◌++◌, [], map, OnOk, IfOk, length};
-ghost use Rattle.caf_types.specs.Shape.{form, parts};
+ghost use Rattle.caf_types.specs.Shape.{tree, parts};
 ghost use Rattle.caf_words.specs.Datum.{data_of, a_list, an_object};
 ghost use Rattle.caf_words.specs.Value.{datum};
-ghost use Rattle.caf_types.specs.Form.{count_parts};
+ghost use Rattle.caf_types.specs.ShapeTree.{count_parts};
 ghost use Rattle.caf_inspect.specs.Event.{events, scalar_events, each_events, list_events, object_events, part_events};
 ghost use Rattle.caf_inspect.specs.Item.{events_in};
 
@@ -26,7 +26,7 @@ impl EventQueue {
         shape: &Shape,
         value: &Value,
     ) -> Result<EventQueue, Memory>
-        ensures { IfOk result (λ queue. events_in queue.items.items ≡ events (form shape.now) (datum value.now)) }
+        ensures { IfOk result (λ queue. events_in queue.items.items ≡ events (tree shape.now) (datum value.now)) }
     {
         let mut items = VecDeque::new(alloc);
         add_value(&mut items, alloc, shape, value)?;
@@ -68,7 +68,7 @@ fn add_value(
     shape: &Shape,
     value: &Value,
 ) -> Result<(), Memory>
-    ensures { OnOk result (events_in items.new.items ≡ events_in items.old.items ++ events (form shape.now) (datum value.now)) }
+    ensures { OnOk result (events_in items.new.items ≡ events_in items.old.items ++ events (tree shape.now) (datum value.now)) }
 {
     match shape {
         Shape::List(item) => match value {
@@ -90,7 +90,7 @@ fn add_list(
     shape: &Shape,
     values: &[Value],
 ) -> Result<(), Memory>
-    ensures { OnOk result (events_in items.new.items ≡ events_in items.old.items ++ list_events (each_events (events (form shape.now))) (a_list (data_of (map datum values.now)))) }
+    ensures { OnOk result (events_in items.new.items ≡ events_in items.old.items ++ list_events (each_events (events (tree shape.now))) (a_list (data_of (map datum values.now)))) }
 {
     add(items, Item::List(values.len() as u64))?;
     add_each(items, alloc, shape, values)?;
@@ -104,7 +104,7 @@ fn add_each(
     shape: &Shape,
     values: &[Value],
 ) -> Result<(), Memory>
-    ensures { OnOk result (events_in items.new.items ≡ events_in items.old.items ++ each_events (events (form shape.now)) (data_of (map datum values.now))) }
+    ensures { OnOk result (events_in items.new.items ≡ events_in items.old.items ++ each_events (events (tree shape.now)) (data_of (map datum values.now))) }
 {
     for value in values {
         add_value(items, alloc, shape, value)?;

@@ -1,5 +1,5 @@
 ghost use Rattle.std.specs.Prelude.{◌≡◌, [], ◌∷◌, codes, cond, map, nat_lt, true, false, Some, IfOk, OnOk, refl};
-ghost use Rattle.caf_types.specs.Form.{unit, flag, unsigned, signed, text, bytes, place, list, object, no_parts, part};
+ghost use Rattle.caf_types.specs.ShapeTree.{unit, flag, unsigned, signed, text, bytes, place, list, object, no_parts, part};
 ghost use Rattle.caf_types.specs.Table.{shape_at, with_block, built_in, named};
 ghost use Rattle.caf_types.specs.TypeTable.{seen};
 ghost use Rattle.caf_words.specs.Datum.{a_unit, a_flag, an_unsigned, a_signed, a_text, some_bytes, a_place, a_list, an_object, more, no_data, data_of};

@@ -1,6 +1,6 @@
 ghost use Rattle.std.specs.Prelude.{◌≡◌, Some, is_some, IsTrue};
-ghost use Rattle.caf_types.specs.Form.{Form};
-ghost use Rattle.caf_types.specs.Shape.{form};
+ghost use Rattle.caf_types.specs.ShapeTree.{ShapeTree};
+ghost use Rattle.caf_types.specs.Shape.{tree};
 ghost use Rattle.caf_types.specs.Table.{shape_at};
 ghost use Rattle.caf_types.specs.TypeTable.{seen};
 ghost use Rattle.caf_text.specs.TextForm.{HasText};
@@ -32,7 +32,7 @@ impl TextLoader {
         text: &str,
     ) -> Result<TextLoader, LoadFault>
         requires { IsTrue (is_some (shape_at (seen table.now) id.0)) }
-        ensures { (f : Form) → shape_at (seen table.now) id.0 ≡ Some f →
+        ensures { (f : ShapeTree) → shape_at (seen table.now) id.0 ≡ Some f →
             Started text_left f (λ d. HasText f d text.now) (TextFailsAt f text.now) result }
     {
         match table.shape(id) {
@@ -43,7 +43,7 @@ impl TextLoader {
 }
 
 fn load_text(alloc: Global, shape: &Shape, text: &str) -> Result<TextLoader, LoadFault>
-    ensures { Started text_left (form shape.now) (λ d. HasText (form shape.now) d text.now) (TextFailsAt (form shape.now) text.now) result }
+    ensures { Started text_left (tree shape.now) (λ d. HasText (tree shape.now) d text.now) (TextFailsAt (tree shape.now) text.now) result }
 {
     match read_text(alloc, shape, text) {
         Ok(value) => {

@@ -1,5 +1,5 @@
 ghost use Rattle.std.specs.Prelude.{◌≡◌, true, List, ◌++◌, [], ◌∷◌, string_bytes, OnOk};
-ghost use Rattle.caf_types.specs.Form.{Form};
+ghost use Rattle.caf_types.specs.ShapeTree.{ShapeTree};
 ghost use Rattle.caf_words.specs.Datum.{Datum, fits};
 ghost use Rattle.caf_text.specs.TextForm.{text_form, HasText};
 ghost use Rattle.caf_inspect.specs.Event.{events};
@@ -59,9 +59,9 @@ impl TextSaver {
 
     /// The text form of the one value that was saved. It takes no memory.
     pub fn finish(self) -> Letters
-        requires { (f : Form) × (d : Datum) × (fits f d ≡ true) × SavesText self (events f d) }
-        ensures form { (f : Form) → (d : Datum) → fits f d ≡ true → SavesText self (events f d) → result ≡ text_form f d }
-        ensures has { (f : Form) → (d : Datum) → fits f d ≡ true → SavesText self (events f d) → HasText f d result }
+        requires { (f : ShapeTree) × (d : Datum) × (fits f d ≡ true) × SavesText self (events f d) }
+        ensures form { (f : ShapeTree) → (d : Datum) → fits f d ≡ true → SavesText self (events f d) → result ≡ text_form f d }
+        ensures has { (f : ShapeTree) → (d : Datum) → fits f d ≡ true → SavesText self (events f d) → HasText f d result }
     {
         match Letters::from_utf8(self.text.into_bytes()) {
             Some(text) => text,

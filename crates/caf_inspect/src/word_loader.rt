@@ -1,5 +1,5 @@
 ghost use Rattle.std.specs.Prelude.{◌≡◌, Some, is_some, IsTrue, IfOk, IfErr};
-ghost use Rattle.caf_types.specs.Form.{Form};
+ghost use Rattle.caf_types.specs.ShapeTree.{ShapeTree};
 ghost use Rattle.caf_types.specs.Table.{shape_at};
 ghost use Rattle.caf_types.specs.TypeTable.{seen};
 ghost use Rattle.caf_words.specs.Spelling.{Spells};
@@ -31,7 +31,7 @@ impl WordLoader {
         words: &[u64],
     ) -> Result<WordLoader, LoadFault>
         requires { IsTrue (is_some (shape_at (seen table.now) id.0)) }
-        ensures { (f : Form) → shape_at (seen table.now) id.0 ≡ Some f →
+        ensures { (f : ShapeTree) → shape_at (seen table.now) id.0 ≡ Some f →
             Started word_left f (λ d. Spells f d words.now) (WordsFailAt (seen table.now) id.0 words.now) result }
     {
         let value = read_one(alloc, table, id, words)?;
@@ -48,8 +48,8 @@ impl WordLoader {
 /// The one value that the words are the spelling of.
 fn read_one(alloc: Global, table: &TypeTable, id: TypeId, words: &[u64]) -> Result<Value, LoadFault>
     requires { IsTrue (is_some (shape_at (seen table.now) id.0)) }
-    ensures found { (f : Form) → shape_at (seen table.now) id.0 ≡ Some f → IfOk result (λ value. Spells f (datum value) words.now) }
-    ensures unfit { (f : Form) → shape_at (seen table.now) id.0 ≡ Some f → IfErr result (Refused (λ d. Spells f d words.now) (WordsFailAt (seen table.now) id.0 words.now)) }
+    ensures found { (f : ShapeTree) → shape_at (seen table.now) id.0 ≡ Some f → IfOk result (λ value. Spells f (datum value) words.now) }
+    ensures unfit { (f : ShapeTree) → shape_at (seen table.now) id.0 ≡ Some f → IfErr result (Refused (λ d. Spells f d words.now) (WordsFailAt (seen table.now) id.0 words.now)) }
 {
     let ids = [id];
     match read(alloc, table, &ids, words) {

@@ -1,5 +1,5 @@
 ghost use Rattle.std.specs.Prelude.{◌≡◌, true, List, ◌++◌, [], ◌∷◌, OnOk, IfOk};
-ghost use Rattle.caf_types.specs.Form.{Form};
+ghost use Rattle.caf_types.specs.ShapeTree.{ShapeTree};
 ghost use Rattle.caf_words.specs.Datum.{Datum, fits, a_text, some_bytes};
 ghost use Rattle.caf_words.specs.Spelling.{spelling, Spells};
 ghost use Rattle.caf_words.specs.Value.{datum};
@@ -41,9 +41,9 @@ impl WordSaver {
 
     /// The spelling of the one value that was saved.
     pub fn finish(self) -> Words
-        requires { (f : Form) × (d : Datum) × (fits f d ≡ true) × SavesWords self (events f d) }
-        ensures form { (f : Form) → (d : Datum) → fits f d ≡ true → SavesWords self (events f d) → result ≡ spelling d }
-        ensures spelled { (f : Form) → (d : Datum) → fits f d ≡ true → SavesWords self (events f d) → Spells f d result }
+        requires { (f : ShapeTree) × (d : Datum) × (fits f d ≡ true) × SavesWords self (events f d) }
+        ensures form { (f : ShapeTree) → (d : Datum) → fits f d ≡ true → SavesWords self (events f d) → result ≡ spelling d }
+        ensures spelled { (f : ShapeTree) → (d : Datum) → fits f d ≡ true → SavesWords self (events f d) → Spells f d result }
     {
         Seq::of_vec(self.words)
     }

@@ -3,7 +3,7 @@ use Rattle.std.proofs.Common.{◌≡◌, ℕ, suc, ◌+◌, Bool, true, false, �
 use Rattle.std.proofs.lemmas.List.{map-append}
 use Rattle.std.specs.FinMap as finite
 use Rattle.std.specs.Option.{option_map}
-use Rattle.caf_types.specs.Form.{Form}
+use Rattle.caf_types.specs.ShapeTree.{ShapeTree}
 use Rattle.caf_types.specs.Table.{Named, Table, shape_at}
 use Rattle.caf_words.specs.Datum.{Datum, Data, no_data, more, data_of, count, fits, is_none}
 use Rattle.caf_words.specs.Spelling.{spelling, spellings, Spells}
@@ -20,7 +20,7 @@ use Rattle.caf_message.proofs.ContentLemmas.{spellings-push, count-data_of, same
 
 -- where a value fits a shape, its spelling is one of the shape
 abbrev pub IsSound : Datum → Type 0
-IsSound d = (f : Form) → fits f d ≡ true → Spells f d (spelling d)
+IsSound d = (f : ShapeTree) → fits f d ≡ true → Spells f d (spelling d)
 
 abbrev pub AreSound : List Datum → Type 0
 AreSound [] = Unit {0}
@@ -34,7 +34,7 @@ both : (a b : Bool) → (a && b) ≡ true → (a ≡ true) × (b ≡ true)
 both true b h = (refl, h)
 both false b h = absurd cc
 
-pub sound_values : (fs : List Form) (ds : List Datum) → AreSound ds → several_fit fs (data_of ds) ≡ true → AreValues fs (data_of ds)
+pub sound_values : (fs : List ShapeTree) (ds : List Datum) → AreSound ds → several_fit fs (data_of ds) ≡ true → AreValues fs (data_of ds)
 sound_values [] [] sound fit = (refl, refl)
 sound_values [] (d ∷ ds) sound fit = absurd cc
 sound_values (f ∷ fs) [] sound fit = absurd cc
@@ -44,34 +44,34 @@ sound_values (f ∷ fs) (d ∷ ds) sound fit =
 
 -- ---- a spelling is the one spelling, and what is spelled fits
 
-pub is_spelling : (f : Form) (d : Datum) (ws : List ℕ) → Spells f d ws → ws ≡ spelling d
+pub is_spelling : (f : ShapeTree) (d : Datum) (ws : List ℕ) → Spells f d ws → ws ≡ spelling d
 is_spelling f d ws s = (is_kept f d ws s).words
 
-pub several_are_fit : (fs : List Form) (ds : Data) (ws : List ℕ) → SeveralSpell fs ds ws → several_fit fs ds ≡ true
+pub several_are_fit : (fs : List ShapeTree) (ds : Data) (ws : List ℕ) → SeveralSpell fs ds ws → several_fit fs ds ≡ true
 several_are_fit [] ds ws (e, is) = ap is_none e
 several_are_fit (f ∷ fs) ds ws (d, es, e, a, b, first, others, is) =
     ap (several_fit (f ∷ fs)) e ∙ and_true (is_kept f d a first).fits (several_are_fit fs es b others)
 
-pub several_spelled : (fs : List Form) (ds : Data) (ws : List ℕ) → SeveralSpell fs ds ws → ws ≡ spellings ds
+pub several_spelled : (fs : List ShapeTree) (ds : Data) (ws : List ℕ) → SeveralSpell fs ds ws → ws ≡ spellings ds
 several_spelled [] ds ws (e, is) = is ∙ ap spellings (sym e)
 several_spelled (f ∷ fs) ds ws (d, es, e, a, b, first, others, is) =
     is ∙ ap (λ (xs : List ℕ). xs ++ b) (is_spelling f d a first) ∙ ap (λ (xs : List ℕ). spelling d ++ xs) (several_spelled fs es b others) ∙ ap spellings (sym e)
 
-pub several_values : (fs : List Form) (ds : Data) (ws : List ℕ) → SeveralSpell fs ds ws → AreValues fs ds
+pub several_values : (fs : List ShapeTree) (ds : Data) (ws : List ℕ) → SeveralSpell fs ds ws → AreValues fs ds
 several_values fs ds ws spell = subst (λ (xs : List ℕ). SeveralSpell fs ds xs) (several_spelled fs ds ws spell) spell
 
 -- the same words, of the same shapes, are of the same values
-pub same_values : (fs : List Form) (ds es : Data) (a b : List ℕ) → SeveralSpell fs ds a → SeveralSpell fs es b → a ≡ b → ds ≡ es
+pub same_values : (fs : List ShapeTree) (ds es : Data) (a b : List ℕ) → SeveralSpell fs ds a → SeveralSpell fs es b → a ≡ b → ds ≡ es
 same_values [] ds es a b (e, is) (e', is') same = e ∙ sym e'
 same_values (f ∷ fs) ds es a b (d, ds', e, a1, a2, first, others, is) (d', es', e', b1, b2, first', others', is') same =
     let o = one_spelling f d d' a1 b1 a2 b2 first first' (sym is ∙ same ∙ is') in
     e ∙ ap (λ (x : Datum). more x ds') o.0 ∙ ap (λ (xs : Data). more d' xs) (same_values fs ds' es' a2 b2 others others' o.1) ∙ sym e'
 
-pub count_values : (fs : List Form) (ds : Data) (ws : List ℕ) → SeveralSpell fs ds ws → count ds ≡ length fs
+pub count_values : (fs : List ShapeTree) (ds : Data) (ws : List ℕ) → SeveralSpell fs ds ws → count ds ≡ length fs
 count_values [] ds ws (e, is) = ap count e
 count_values (f ∷ fs) ds ws (d, es, e, a, b, first, others, is) = ap count e ∙ add-one (count es) ∙ ap suc (count_values fs es b others)
 
-pub AreValues-push : (fs : List Form) (ds : List Datum) (f : Form) (d : Datum) → AreValues fs (data_of ds) → Spells f d (spelling d) → AreValues (fs ++ f ∷ []) (data_of (ds ++ d ∷ []))
+pub AreValues-push : (fs : List ShapeTree) (ds : List Datum) (f : ShapeTree) (d : Datum) → AreValues fs (data_of ds) → Spells f d (spelling d) → AreValues (fs ++ f ∷ []) (data_of (ds ++ d ∷ []))
 AreValues-push [] [] f d all one = (d, no_data, refl, spelling d, [], one, (refl, refl), refl)
 AreValues-push [] (e ∷ es) f d all one = absurd cc
 AreValues-push (g ∷ gs) [] f d (x, xs, e, a, b, first, others, is) one = absurd cc
@@ -85,41 +85,41 @@ AreValues-push (g ∷ gs) (e ∷ es) f d (x, xs, is, a, b, first, others, ws) on
 
 -- ---- shapes of IDs
 
-pub same_shapes : (fs gs : List Form) → map (λ (f : Form). Some f) fs ≡ map (λ (f : Form). Some f) gs → fs ≡ gs
+pub same_shapes : (fs gs : List ShapeTree) → map (λ (f : ShapeTree). Some f) fs ≡ map (λ (f : ShapeTree). Some f) gs → fs ≡ gs
 same_shapes [] [] e = refl
 same_shapes [] (g ∷ gs) e = absurd cc
 same_shapes (f ∷ fs) [] e = absurd cc
 same_shapes (f ∷ fs) (g ∷ gs) e =
     let heads : f ≡ g = cc in
-    let tails : map (λ (f : Form). Some f) fs ≡ map (λ (f : Form). Some f) gs = cc in
-    ap (λ (h : Form). h ∷ fs) heads ∙ ap (λ (hs : List Form). g ∷ hs) (same_shapes fs gs tails)
+    let tails : map (λ (f : ShapeTree). Some f) fs ≡ map (λ (f : ShapeTree). Some f) gs = cc in
+    ap (λ (h : ShapeTree). h ∷ fs) heads ∙ ap (λ (hs : List ShapeTree). g ∷ hs) (same_shapes fs gs tails)
 
-pub length_shapes : (shape_of : ℕ → Option Form) (ids : List ℕ) (fs : List Form) → HaveShapes shape_of ids fs → length ids ≡ length fs
+pub length_shapes : (shape_of : ℕ → Option ShapeTree) (ids : List ℕ) (fs : List ShapeTree) → HaveShapes shape_of ids fs → length ids ≡ length fs
 length_shapes shape_of [] [] e = refl
 length_shapes shape_of [] (f ∷ fs) e = absurd cc
 length_shapes shape_of (id ∷ ids) [] e = absurd cc
 length_shapes shape_of (id ∷ ids) (f ∷ fs) e =
-    let tails : map shape_of ids ≡ map (λ (f : Form). Some f) fs = cc in
+    let tails : map shape_of ids ≡ map (λ (f : ShapeTree). Some f) fs = cc in
     ap suc (length_shapes shape_of ids fs tails)
 
-pub HaveShapes-push : (shape_of : ℕ → Option Form) (ids : List ℕ) (fs : List Form) (id : ℕ) (f : Form) → HaveShapes shape_of ids fs → shape_of id ≡ Some f → HaveShapes shape_of (ids ++ id ∷ []) (fs ++ f ∷ [])
+pub HaveShapes-push : (shape_of : ℕ → Option ShapeTree) (ids : List ℕ) (fs : List ShapeTree) (id : ℕ) (f : ShapeTree) → HaveShapes shape_of ids fs → shape_of id ≡ Some f → HaveShapes shape_of (ids ++ id ∷ []) (fs ++ f ∷ [])
 HaveShapes-push shape_of ids fs id f have one =
     map-append shape_of ids (id ∷ [])
-    ∙ ap (λ (xs : List (Option Form)). xs ++ shape_of id ∷ []) have
-    ∙ ap (λ (x : Option Form). map (λ (f : Form). Some f) fs ++ x ∷ []) one
-    ∙ sym (map-append (λ (f : Form). Some f) fs (f ∷ []))
+    ∙ ap (λ (xs : List (Option ShapeTree)). xs ++ shape_of id ∷ []) have
+    ∙ ap (λ (x : Option ShapeTree). map (λ (f : ShapeTree). Some f) fs ++ x ∷ []) one
+    ∙ sym (map-append (λ (f : ShapeTree). Some f) fs (f ∷ []))
 
 -- where more IDs have shapes, and those that had one keep it
-more_shapes : (little great : ℕ → Option Form) → ((id : ℕ) (f : Form) → little id ≡ Some f → great id ≡ Some f) → (ids : List ℕ) (fs : List Form) → HaveShapes little ids fs → HaveShapes great ids fs
+more_shapes : (little great : ℕ → Option ShapeTree) → ((id : ℕ) (f : ShapeTree) → little id ≡ Some f → great id ≡ Some f) → (ids : List ℕ) (fs : List ShapeTree) → HaveShapes little ids fs → HaveShapes great ids fs
 more_shapes little great grows [] [] e = refl
 more_shapes little great grows [] (f ∷ fs) e = absurd cc
 more_shapes little great grows (id ∷ ids) [] e = absurd cc
 more_shapes little great grows (id ∷ ids) (f ∷ fs) e =
     let head : little id ≡ Some f = cc in
-    let tails : map little ids ≡ map (λ (f : Form). Some f) fs = cc in
-    ap (λ (x : Option Form). x ∷ map great ids) (grows id f head) ∙ ap (λ (xs : List (Option Form)). Some f ∷ xs) (more_shapes little great grows ids fs tails)
+    let tails : map little ids ≡ map (λ (f : ShapeTree). Some f) fs = cc in
+    ap (λ (x : Option ShapeTree). x ∷ map great ids) (grows id f head) ∙ ap (λ (xs : List (Option ShapeTree)). Some f ∷ xs) (more_shapes little great grows ids fs tails)
 
-pub Fits-more : (little great : ℕ → Option Form) → ((id : ℕ) (f : Form) → little id ≡ Some f → great id ≡ Some f) → (words : List ℕ) → Fits little words → Fits great words
+pub Fits-more : (little great : ℕ → Option ShapeTree) → ((id : ℕ) (f : ShapeTree) → little id ≡ Some f → great id ≡ Some f) → (words : List ℕ) → Fits little words → Fits great words
 Fits-more little great grows words fit = record {
   ids = fit.ids;
   values = fit.values;
@@ -131,18 +131,18 @@ Fits-more little great grows words fit = record {
   };
 }
 
-entry_found : (o : Option Named) (f : Form) → option_map (λ (n : Named). n.shape) o ≡ Some f → (n : Named) × (o ≡ Some n) × (n.shape ≡ f)
+entry_found : (o : Option Named) (f : ShapeTree) → option_map (λ (n : Named). n.shape) o ≡ Some f → (n : Named) × (o ≡ Some n) × (n.shape ≡ f)
 entry_found None f e = absurd cc
 entry_found (Some n) f e = (n, refl, cc)
 
-pub entry_shapes_stand : (t : Table) (entries : TableEntries) → HasEntries t entries → (id : ℕ) (f : Form) → entry_shape entries id ≡ Some f → shape_at t id ≡ Some f
+pub entry_shapes_stand : (t : Table) (entries : TableEntries) → HasEntries t entries → (id : ℕ) (f : ShapeTree) → entry_shape entries id ≡ Some f → shape_at t id ≡ Some f
 entry_shapes_stand t entries has id f e =
     let found = entry_found (finite.get entries id) f e in
-    ap (option_map (λ (n : Named). n.shape)) (has id found.0 found.1) ∙ ap (λ (g : Form). Some g) found.2
+    ap (option_map (λ (n : Named). n.shape)) (has id found.0 found.1) ∙ ap (λ (g : ShapeTree). Some g) found.2
 
 -- ---- whole contents
 
-pub is_content : (shape_of : ℕ → Option Form) (words : List ℕ) → Fits shape_of words → IsContent words
+pub is_content : (shape_of : ℕ → Option ShapeTree) (words : List ℕ) → Fits shape_of words → IsContent words
 is_content shape_of words fit = record {
   ids = fit.ids;
   values = fit.values;
@@ -150,10 +150,10 @@ is_content shape_of words fit = record {
   words_are = fit.means.words_are;
 }
 
-pub row_content : (words ids : List ℕ) (shapes : List Form) (values : Data) → length shapes ≡ length ids → AreValues shapes values → words ≡ content_of ids values → IsContent words
+pub row_content : (words ids : List ℕ) (shapes : List ShapeTree) (values : Data) → length shapes ≡ length ids → AreValues shapes values → words ≡ content_of ids values → IsContent words
 row_content words ids shapes values each all is = record { ids = ids; values = values; one_each = count_values shapes values (spellings values) all ∙ each; words_are = is }
 
-pub content_fits : (shape_of : ℕ → Option Form) (ids : List ℕ) (shapes : List Form) (values : Data) → HaveShapes shape_of ids shapes → AreValues shapes values → Fits shape_of (content_of ids values)
+pub content_fits : (shape_of : ℕ → Option ShapeTree) (ids : List ℕ) (shapes : List ShapeTree) (values : Data) → HaveShapes shape_of ids shapes → AreValues shapes values → Fits shape_of (content_of ids values)
 content_fits shape_of ids shapes values have all = record {
   ids = ids;
   values = values;
@@ -188,7 +188,7 @@ pub built_pushed : (ids words more_ids more_words : List ℕ) (id : ℕ) (value 
     → IsBuilt record { ids = ids; words = words } → IsBuilt record { ids = more_ids; words = more_words }
 built_pushed ids words more_ids more_words id value e f b = rw (e, f) (built_push ids words id value b)
 
-pub built_fits_push : (shape_of : ℕ → Option Form) (b : Built) (id : ℕ) (shape : Form) (value : Datum) → shape_of id ≡ Some shape → Spells shape value (spelling value) → BuiltFits shape_of b
+pub built_fits_push : (shape_of : ℕ → Option ShapeTree) (b : Built) (id : ℕ) (shape : ShapeTree) (value : Datum) → shape_of id ≡ Some shape → Spells shape value (spelling value) → BuiltFits shape_of b
     → BuiltFits shape_of record { ids = b.ids ++ id ∷ []; words = b.words ++ spelling value }
 built_fits_push shape_of b id shape value has spells fit = record {
   values = fit.values ++ value ∷ [];
@@ -198,7 +198,7 @@ built_fits_push shape_of b id shape value has spells fit = record {
   words_are = ap (λ (ws : List ℕ). ws ++ spelling value) fit.words_are ∙ sym (spellings-push fit.values value);
 }
 
-pub built_content_fits : (shape_of : ℕ → Option Form) (b : Built) → BuiltFits shape_of b → Fits shape_of (built_content b)
+pub built_content_fits : (shape_of : ℕ → Option ShapeTree) (b : Built) → BuiltFits shape_of b → Fits shape_of (built_content b)
 built_content_fits shape_of b fit = record {
   ids = b.ids;
   values = data_of fit.values;
@@ -210,32 +210,32 @@ built_content_fits shape_of b fit = record {
   };
 }
 
-pub built_fits_pushed : (shape_of : ℕ → Option Form) (ids words more_ids more_words : List ℕ) (id : ℕ) (shape : Form) (value : Datum) → more_ids ≡ ids ++ id ∷ [] → more_words ≡ words ++ spelling value
+pub built_fits_pushed : (shape_of : ℕ → Option ShapeTree) (ids words more_ids more_words : List ℕ) (id : ℕ) (shape : ShapeTree) (value : Datum) → more_ids ≡ ids ++ id ∷ [] → more_words ≡ words ++ spelling value
     → shape_of id ≡ Some shape → Spells shape value (spelling value) → BuiltFits shape_of record { ids = ids; words = words } → BuiltFits shape_of record { ids = more_ids; words = more_words }
 built_fits_pushed shape_of ids words more_ids more_words id shape value e f has spells b = rw (e, f) (built_fits_push shape_of record { ids = ids; words = words } id shape value has spells b)
 
 -- ---- the shapes of a table's types
 
-joined_some : (f : Form) (o : Option (List Form)) (fs : List Form) → o ≡ Some fs → joined (Some f) o ≡ Some (f ∷ fs)
+joined_some : (f : ShapeTree) (o : Option (List ShapeTree)) (fs : List ShapeTree) → o ≡ Some fs → joined (Some f) o ≡ Some (f ∷ fs)
 joined_some f o fs e = rw e refl
 
-pub shapes_found : (t : Table) (ids : List ℕ) (fs : List Form) → HaveShapes (shape_at t) ids fs → shapes_at t ids ≡ Some fs
+pub shapes_found : (t : Table) (ids : List ℕ) (fs : List ShapeTree) → HaveShapes (shape_at t) ids fs → shapes_at t ids ≡ Some fs
 shapes_found t [] [] e = refl
 shapes_found t [] (f ∷ fs) e = absurd cc
 shapes_found t (id ∷ ids) [] e = absurd cc
 shapes_found t (id ∷ ids) (f ∷ fs) e =
     let head : shape_at t id ≡ Some f = cc in
-    let tails : map (shape_at t) ids ≡ map (λ (f : Form). Some f) fs = cc in
-    ap (λ (o : Option Form). joined o (shapes_at t ids)) head ∙ joined_some f (shapes_at t ids) fs (shapes_found t ids fs tails)
+    let tails : map (shape_at t) ids ≡ map (λ (f : ShapeTree). Some f) fs = cc in
+    ap (λ (o : Option ShapeTree). joined o (shapes_at t ids)) head ∙ joined_some f (shapes_at t ids) fs (shapes_found t ids fs tails)
 
 -- ---- one meaning
 
-pub one_meaning_lem : (shape_of : ℕ → Option Form) (words ids others : List ℕ) (values rivals : Data) → Means shape_of words ids values → Means shape_of words others rivals → (ids ≡ others) × (values ≡ rivals)
+pub one_meaning_lem : (shape_of : ℕ → Option ShapeTree) (words ids others : List ℕ) (values rivals : Data) → Means shape_of words ids values → Means shape_of words others rivals → (ids ≡ others) × (values ≡ rivals)
 one_meaning_lem shape_of words ids others values rivals m n =
     let same : ids ≡ others = sym (same_ids words ids values m.words_are) ∙ same_ids words others rivals n.words_are in
     let shapes : m.shapes ≡ n.shapes = same_shapes m.shapes n.shapes (sym m.have_shapes ∙ ap (map shape_of) same ∙ n.have_shapes) in
     let behind : spellings values ≡ spellings rivals = same_words words ids others values rivals m.words_are n.words_are same in
-    (same, same_values m.shapes values rivals (spellings values) (spellings rivals) m.are_values (subst (λ (fs : List Form). AreValues fs rivals) (sym shapes) n.are_values) behind)
+    (same, same_values m.shapes values rivals (spellings values) (spellings rivals) m.are_values (subst (λ (fs : List ShapeTree). AreValues fs rivals) (sym shapes) n.are_values) behind)
 
 -- ---- viewing
 
@@ -246,7 +246,7 @@ spelled_behind t words ids fit same =
     let found : shapes_at t ids ≡ Some fit.means.shapes = ap (shapes_at t) (sym own) ∙ shapes_found t fit.ids fit.means.shapes fit.means.have_shapes in
     let behind : spellings fit.values ≡ drop (length ids + 1) words =
     sym (drop-content fit.ids fit.values) ∙ ap (drop (length fit.ids + 1)) (sym fit.means.words_are) ∙ ap (λ (xs : List ℕ). drop (length xs + 1) words) own in
-    subst (λ (o : Option (List Form)). ShapesSpell o fit.values (drop (length ids + 1) words)) (sym found)
+    subst (λ (o : Option (List ShapeTree)). ShapesSpell o fit.values (drop (length ids + 1) words)) (sym found)
     (subst (λ (ws : List ℕ). SeveralSpell fit.means.shapes fit.values ws) behind fit.means.are_values)
 
 -- values that are spelled there are what the content means
@@ -256,7 +256,7 @@ means_of t words ids fit same values spell =
     let found : shapes_at t ids ≡ Some fit.means.shapes = ap (shapes_at t) (sym own) ∙ shapes_found t fit.ids fit.means.shapes fit.means.have_shapes in
     let behind : spellings fit.values ≡ drop (length ids + 1) words =
     sym (drop-content fit.ids fit.values) ∙ ap (drop (length fit.ids + 1)) (sym fit.means.words_are) ∙ ap (λ (xs : List ℕ). drop (length xs + 1) words) own in
-    let several : SeveralSpell fit.means.shapes values (drop (length ids + 1) words) = subst (λ (o : Option (List Form)). ShapesSpell o values (drop (length ids + 1) words)) found spell in
+    let several : SeveralSpell fit.means.shapes values (drop (length ids + 1) words) = subst (λ (o : Option (List ShapeTree)). ShapesSpell o values (drop (length ids + 1) words)) found spell in
     record {
       shapes = fit.means.shapes;
       have_shapes = subst (λ (xs : List ℕ). HaveShapes (shape_at t) xs fit.means.shapes) own fit.means.have_shapes;
@@ -265,7 +265,7 @@ means_of t words ids fit same values spell =
           ∙ ap (λ (ws : List ℕ). length ids ∷ (ids ++ ws)) (behind ∙ several_spelled fit.means.shapes values (drop (length ids + 1) words) several);
     }
 
-pub means_fit : (shape_of : ℕ → Option Form) (words ids : List ℕ) (shapes : List Form) (values : Data) → HaveShapes shape_of ids shapes → Means shape_of words ids values → several_fit shapes values ≡ true
+pub means_fit : (shape_of : ℕ → Option ShapeTree) (words ids : List ℕ) (shapes : List ShapeTree) (values : Data) → HaveShapes shape_of ids shapes → Means shape_of words ids values → several_fit shapes values ≡ true
 means_fit shape_of words ids shapes values have m =
     let same : m.shapes ≡ shapes = same_shapes m.shapes shapes (sym m.have_shapes ∙ have) in
-    ap (λ (fs : List Form). several_fit fs values) (sym same) ∙ several_are_fit m.shapes values (spellings values) m.are_values
+    ap (λ (fs : List ShapeTree). several_fit fs values) (sym same) ∙ several_are_fit m.shapes values (spellings values) m.are_values

@@ -1,6 +1,6 @@
 -- A message that is being built.
 use Rattle.std.specs.Prelude.{◌≡◌, ℕ, List, ◌∷◌, ◌++◌, length, Option}
-use Rattle.caf_types.specs.Form.{Form}
+use Rattle.caf_types.specs.ShapeTree.{ShapeTree}
 use Rattle.caf_words.specs.Datum.{Datum, data_of}
 use Rattle.caf_words.specs.Spelling.{spellings}
 use Rattle.caf_message.specs.Fits.{AreValues, HaveShapes}
@@ -21,9 +21,9 @@ pub record IsBuilt (b : Built) : Type 0 where
   pub words_are : b.words ≡ spellings (data_of values)
 
 -- the words spell values of the shapes that the IDs have
-pub record BuiltFits (shape_of : ℕ → Option Form) (b : Built) : Type 0 where
+pub record BuiltFits (shape_of : ℕ → Option ShapeTree) (b : Built) : Type 0 where
   pub values : List Datum
-  pub shapes : List Form
+  pub shapes : List ShapeTree
   pub have_shapes : HaveShapes shape_of b.ids shapes
   pub are_values : AreValues shapes (data_of values)
   pub words_are : b.words ≡ spellings (data_of values)

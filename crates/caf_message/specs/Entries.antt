@@ -3,7 +3,7 @@ use Rattle.std.specs.Prelude.{◌≡◌, ℕ, Option, Some}
 use Rattle.std.specs.Ordering.{nat_cmp}
 use Rattle.std.specs.Option.{option_map}
 use Rattle.std.specs.FinMap as finite
-use Rattle.caf_types.specs.Form.{Form}
+use Rattle.caf_types.specs.ShapeTree.{ShapeTree}
 use Rattle.caf_types.specs.Table.{Named, Table, type_at}
 
 -- finitely many IDs, each with the name and the shape of its type
@@ -11,7 +11,7 @@ abbrev pub TableEntries : Type 0
 TableEntries = finite.FinMap nat_cmp Named
 
 -- the shape that an ID has among the entries
-abbrev pub entry_shape : TableEntries → ℕ → Option Form
+abbrev pub entry_shape : TableEntries → ℕ → Option ShapeTree
 entry_shape entries id = option_map (λ (n : Named). n.shape) (finite.get entries id)
 
 -- the table has the entries

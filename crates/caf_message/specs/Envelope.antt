@@ -11,7 +11,7 @@ use Rattle.caf_message.specs.declared.envelope.Plain.{Plain}
 use Rattle.caf_message.specs.declared.envelope.Plain.TheVariants as «plain»
 use Rattle.caf_message.specs.declared.envelope.Taken.{Taken}
 use Rattle.caf_message.specs.Fits.{Fits}
-use Rattle.caf_types.specs.Form.{Form}
+use Rattle.caf_types.specs.ShapeTree.{ShapeTree}
 
 -- ---- plain form
 
@@ -60,11 +60,11 @@ content_in («plain».Content words) = Some words
 content_in _ = None
 
 -- its content, where it has one, fits
-abbrev pub BodyFits : (ℕ → Option Form) → Plain → Type 0
+abbrev pub BodyFits : (ℕ → Option ShapeTree) → Plain → Type 0
 BodyFits shape_of («plain».Content words) = Fits shape_of words
 BodyFits shape_of _ = Unit {0}
 
-abbrev pub EnvelopeFits : (ℕ → Option Form) → Taken → Type 0
+abbrev pub EnvelopeFits : (ℕ → Option ShapeTree) → Taken → Type 0
 EnvelopeFits shape_of e = BodyFits shape_of e.body
 
 -- ---- what every envelope of a run keeps

@@ -1,5 +1,5 @@
 ghost use Rattle.std.specs.Prelude.{◌≡◌, ◌∷◌, ◌++◌, [], ℕ, true, length, IfOk, OnOk, OnErr, Option, Some};
-ghost use Rattle.caf_types.specs.Form.{Form};
+ghost use Rattle.caf_types.specs.ShapeTree.{ShapeTree};
 ghost use Rattle.caf_types.specs.Table.{shape_at};
 ghost use Rattle.caf_types.specs.TypeTable.{seen};
 ghost use Rattle.caf_words.specs.Datum.{fits};
@@ -50,10 +50,10 @@ impl MessageBuilder {
     /// Adds an element at the end: a value of the shape that the ID has in the table. After want of
     /// memory the builder is as before.
     pub fn push(&mut self, table: &TypeTable, id: TypeId, value: &Value) -> Result<(), Memory>
-        requires { (shape : Form) × (shape_at (seen table.now) id.0 ≡ Some shape) × (fits shape (datum value.now) ≡ true) }
+        requires { (shape : ShapeTree) × (shape_at (seen table.now) id.0 ≡ Some shape) × (fits shape (datum value.now) ≡ true) }
         ensures ids { OnOk result (self.new.ids ≡ self.old.ids ++ id.0 ∷ []) }
         ensures words { OnOk result (self.new.words ≡ self.old.words ++ spelling (datum value.now)) }
-        ensures fits { (shape_of : ℕ → Option Form) → shape_of id.0 ≡ shape_at (seen table.now) id.0
+        ensures fits { (shape_of : ℕ → Option ShapeTree) → shape_of id.0 ≡ shape_at (seen table.now) id.0
             → BuiltFits shape_of self.old → OnOk result (BuiltFits shape_of self.new) }
         ensures memory { OnErr result (self.new ≡ self.old) }
     {
@@ -70,7 +70,7 @@ impl MessageBuilder {
     pub fn finish(self) -> Result<Message, MessageFault>
         ensures made { IfOk result (λ message. message ≡ fresh (built_content self)) }
         ensures large { LargeExactly result (built_content self) }
-        ensures fits { (shape_of : ℕ → Option Form) → BuiltFits shape_of self → OnOk result (Fits shape_of (built_content self)) }
+        ensures fits { (shape_of : ℕ → Option ShapeTree) → BuiltFits shape_of self → OnOk result (Fits shape_of (built_content self)) }
     {
         let MessageBuilder { ids, words } = self;
         let alloc = *words.allocator();

@@ -1,6 +1,6 @@
 //! What follows from the definitions alone. These functions do nothing: their contracts are the laws.
 ghost use Rattle.std.specs.Prelude.{◌≡◌, ℕ, List, Option};
-ghost use Rattle.caf_types.specs.Form.{Form};
+ghost use Rattle.caf_types.specs.ShapeTree.{ShapeTree};
 ghost use Rattle.caf_types.specs.Table.{Table};
 ghost use Rattle.caf_words.specs.Datum.{Data};
 ghost use Rattle.caf_message.specs.Entries.{TableEntries, HasEntries};
@@ -8,7 +8,7 @@ ghost use Rattle.caf_message.specs.Fits.{Means, FitsTable, FitsEntries};
 
 /// Where each ID has a shape, a content means one list of IDs and one list of values.
 pub fn one_meaning()
-    ensures { (shape_of : ℕ → Option Form) (words ids others : List ℕ) (values rivals : Data)
+    ensures { (shape_of : ℕ → Option ShapeTree) (words ids others : List ℕ) (values rivals : Data)
         → Means shape_of words ids values → Means shape_of words others rivals → (ids ≡ others) × (values ≡ rivals) }
 {}
 

@@ -1,5 +1,5 @@
 ghost use Rattle.std.specs.Prelude.{◌≡◌, ◌<◌, ℕ, true, length, slice_set, Option, IfOk, OnOk, OnErr};
-ghost use Rattle.caf_types.specs.Form.{Form};
+ghost use Rattle.caf_types.specs.ShapeTree.{ShapeTree};
 ghost use Rattle.caf_steps.specs.Reference.{fresh};
 ghost use Rattle.caf_message.specs.Content.{content_of, ids_in};
 ghost use Rattle.caf_message.specs.Fits.{Fits, HaveShapes};
@@ -31,7 +31,7 @@ impl Message {
     pub fn of<T: Row>(alloc: Global, row: &T) -> Result<Message, MessageFault>
         ensures made { IfOk result (λ message. message ≡ fresh (content_of T.ids (T.means row.now))) }
         ensures large { LargeExactly result (content_of T.ids (T.means row.now)) }
-        ensures fits { (shape_of : ℕ → Option Form) → HaveShapes shape_of T.ids T.shapes → OnOk result (Fits shape_of (content_of T.ids (T.means row.now))) }
+        ensures fits { (shape_of : ℕ → Option ShapeTree) → HaveShapes shape_of T.ids T.shapes → OnOk result (Fits shape_of (content_of T.ids (T.means row.now))) }
     {
         let content = row::content(alloc, row)?;
         let tuple = Tuple::make(alloc, content.as_slice())?;
@@ -50,7 +50,7 @@ impl Message {
         ensures sole_in_place { self.old.sole ≡ true → length (content_of T.ids (T.means row.now)) ≡ length self.old.content
             → IfOk result (λ replaced. replaced ≡ InPlace) }
         ensures large { LargeExactly result (content_of T.ids (T.means row.now)) }
-        ensures fits { (shape_of : ℕ → Option Form) → HaveShapes shape_of T.ids T.shapes → OnOk result (Fits shape_of self.new.content) }
+        ensures fits { (shape_of : ℕ → Option ShapeTree) → HaveShapes shape_of T.ids T.shapes → OnOk result (Fits shape_of self.new.content) }
         ensures refused { OnErr result (IsAsBefore self.old self.new) }
     {
         let content = row::content(alloc, row)?;

@@ -1,6 +1,6 @@
 //! The content of a row, word by word.
 ghost use Rattle.std.specs.Prelude.{◌≡◌, ◌++◌, ◌∷◌, [], map, length, true, List, IfOk, OnOk, OnErr};
-ghost use Rattle.caf_types.specs.Form.{Form};
+ghost use Rattle.caf_types.specs.ShapeTree.{ShapeTree};
 ghost use Rattle.caf_words.specs.Value.{datum};
 ghost use Rattle.caf_words.specs.Datum.{data_of};
 ghost use Rattle.caf_words.specs.Spelling.{spellings};
@@ -61,7 +61,7 @@ pub(crate) fn push_words(words: &mut Vec<u64>, more: &[u64]) -> Result<(), Memor
 /// Adds the spelling of each value.
 fn push_values(words: &mut Vec<u64>, alloc: Global, values: &[Value]) -> Result<(), Memory>
     ensures words { OnOk result (words.new.items ≡ words.old.items ++ spellings (data_of (map datum values.now))) }
-    ensures values { (shapes : List Form) → several_fit shapes (data_of (map datum values.now)) ≡ true → OnOk result (AreValues shapes (data_of (map datum values.now))) }
+    ensures values { (shapes : List ShapeTree) → several_fit shapes (data_of (map datum values.now)) ≡ true → OnOk result (AreValues shapes (data_of (map datum values.now))) }
 {
     for value in values {
         let spelling = spell(alloc, value)?;

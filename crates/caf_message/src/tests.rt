@@ -1,5 +1,5 @@
 ghost use Rattle.std.specs.Prelude.{◌≡◌, [], ◌∷◌, refl, IsTrue, IfOk};
-ghost use Rattle.caf_types.specs.Form.{unit, signed};
+ghost use Rattle.caf_types.specs.ShapeTree.{unit, signed};
 ghost use Rattle.caf_types.specs.Table.{shape_at};
 ghost use Rattle.caf_types.specs.TypeTable.{seen};
 ghost use Rattle.caf_words.specs.Datum.{a_unit, a_signed, no_data, more};

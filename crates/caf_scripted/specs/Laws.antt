@@ -4,7 +4,7 @@ use Rattle.std.proofs.Common.{suc, ap, sym, ◌∙◌, arith}
 use Rattle.std.proofs.lemmas.Bool.{lt-ltb, leb-true}
 use Rattle.std.proofs.lemmas.Slice.Eq.{bytes_eq-Decides}
 use Rattle.std.specs.List.{AllByRecursion}
-use Rattle.caf_types.specs.Form.{Form}
+use Rattle.caf_types.specs.ShapeTree.{ShapeTree}
 use Rattle.caf_types.specs.Table.{shape_at}
 use Rattle.caf_types.specs.declared.sec.Sec.TheVariants as sec
 use Rattle.caf_words.specs.Several.{ids_of}
@@ -57,7 +57,7 @@ skips_inputs s ids valid h = go s.is_asleep refl
 
 -- ---- what fits
 
-echo_fits : (shape_of : ℕ → Option Form) (found : Option Signature) (words : List ℕ) → Fits shape_of words → AnswerFits shape_of (echo_by found words)
+echo_fits : (shape_of : ℕ → Option ShapeTree) (found : Option Signature) (words : List ℕ) → Fits shape_of words → AnswerFits shape_of (echo_by found words)
 echo_fits shape_of None words h = tt
 echo_fits shape_of (Some s) words h = go (bytes_eq (ids_of s.result) (ids_of s.input))
   where
@@ -65,21 +65,21 @@ echo_fits shape_of (Some s) words h = go (bytes_eq (ids_of s.result) (ids_of s.i
     go true = h
     go false = tt
 
-ignore_fits : (shape_of : ℕ → Option Form) (origin : Origin) → AnswerFits shape_of (ignore origin)
+ignore_fits : (shape_of : ℕ → Option ShapeTree) (origin : Origin) → AnswerFits shape_of (ignore origin)
 ignore_fits shape_of origin = go (is_asked origin)
   where
     go : (b : Bool) → AnswerFits shape_of (if b then answer.Error sec.Failed else answer.Nothing)
     go true = tt
     go false = tt
 
-answer_fits : (shape_of : ℕ → Option Form) (s : Scripted) (to : ℕ) (origin : Origin) (words : List ℕ) (r : Reply) → Fits shape_of words → AnswerFits shape_of (answer_by s to origin words r)
+answer_fits : (shape_of : ℕ → Option ShapeTree) (s : Scripted) (to : ℕ) (origin : Origin) (words : List ℕ) (r : Reply) → Fits shape_of words → AnswerFits shape_of (answer_by s to origin words r)
 answer_fits shape_of s to origin words reply.Echo h = echo_fits shape_of (signature_for s.interface (ids_in words)) words h
 answer_fits shape_of s to origin words reply.Fail h = tt
 answer_fits shape_of s to origin words reply.Ignore h = ignore_fits shape_of origin
 answer_fits shape_of s to origin words reply.Delegate h = tt
 answer_fits shape_of s to origin words reply.Hold h = tt
 
-output_fits : (shape_of : ℕ → Option Form) (s : Scripted) (to : ℕ) (origin : Origin) (words : List ℕ) (what : Sending) → Fits shape_of words → OutputFits shape_of (output_by s to origin words what)
+output_fits : (shape_of : ℕ → Option ShapeTree) (s : Scripted) (to : ℕ) (origin : Origin) (words : List ℕ) (what : Sending) → Fits shape_of words → OutputFits shape_of (output_by s to origin words what)
 output_fits shape_of s to origin words sending.Tell h = h
 output_fits shape_of s to origin words sending.Fan h = h
 output_fits shape_of s to origin words (sending.Ask mode tag expected) h = h
@@ -91,18 +91,18 @@ output_fits shape_of s to origin words sending.Unwatch h = tt
 output_fits shape_of s to origin words (sending.Deliver requester number) h = h
 output_fits shape_of s to origin words (sending.Break requester number why) h = tt
 
-outputs_fit : (shape_of : ℕ → Option Form) (s : Scripted) (to : ℕ) (origin : Origin) (words : List ℕ) (what : Option Sending) → Fits shape_of words → AllByRecursion (OutputFits shape_of) (outputs_by s to origin words what)
+outputs_fit : (shape_of : ℕ → Option ShapeTree) (s : Scripted) (to : ℕ) (origin : Origin) (words : List ℕ) (what : Option Sending) → Fits shape_of words → AllByRecursion (OutputFits shape_of) (outputs_by s to origin words what)
 outputs_fit shape_of s to origin words None h = tt
 outputs_fit shape_of s to origin words (Some what) h = (output_fits shape_of s to origin words what h, tt)
 
-both_fit : (shape_of : ℕ → Option Form) (xs ys : List PlainOutput) → AllByRecursion (OutputFits shape_of) xs → AllByRecursion (OutputFits shape_of) ys → AllByRecursion (OutputFits shape_of) (xs ++ ys)
+both_fit : (shape_of : ℕ → Option ShapeTree) (xs ys : List PlainOutput) → AllByRecursion (OutputFits shape_of) xs → AllByRecursion (OutputFits shape_of) ys → AllByRecursion (OutputFits shape_of) (xs ++ ys)
 both_fit shape_of [] ys h k = k
 both_fit shape_of (x ∷ xs) ys h k = (h.0, both_fit shape_of xs ys h.1 k)
 
-reaction_fits : (shape_of : ℕ → Option Form) (s : Scripted) (to : ℕ) (origin : Origin) (words : List ℕ) (a : Act) → Fits shape_of words → ReactionFits shape_of (reaction_to s to origin words a)
+reaction_fits : (shape_of : ℕ → Option ShapeTree) (s : Scripted) (to : ℕ) (origin : Origin) (words : List ℕ) (a : Act) → Fits shape_of words → ReactionFits shape_of (reaction_to s to origin words a)
 reaction_fits shape_of s to origin words a h = record { outputs = both_fit shape_of (outputs_by s to origin words a.sending) (outputs_by s to origin words a.afterwards) (outputs_fit shape_of s to origin words a.sending h) (outputs_fit shape_of s to origin words a.afterwards h); answer = answer_fits shape_of s to origin words a.reply h }
 
-all_fit : (shape_of : ℕ → Option Form) (s : Scripted) (i : PlainInput) → InputFits shape_of i → ReactionFits shape_of (reaction s i)
+all_fit : (shape_of : ℕ → Option ShapeTree) (s : Scripted) (i : PlainInput) → InputFits shape_of i → ReactionFits shape_of (reaction s i)
 all_fit shape_of s Start h = record { outputs = tt; answer = tt }
 all_fit shape_of s Stop h = record { outputs = tt; answer = tt }
 all_fit shape_of s (Content origin words) h = reaction_fits shape_of s (first_peer s.place s.peers) origin words (act_now s) h

@@ -1,6 +1,6 @@
 //! The contents of the tests.
 ghost use Rattle.std.specs.Prelude.{[], ◌∷◌, refl};
-ghost use Rattle.caf_types.specs.Form.{unit, unsigned};
+ghost use Rattle.caf_types.specs.ShapeTree.{unit, unsigned};
 ghost use Rattle.caf_words.specs.Datum.{a_unit, an_unsigned, no_data, more};
 
 use caf_types::{Memory, Seq, TypeId, TypeIds};

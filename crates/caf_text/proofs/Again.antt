@@ -4,7 +4,7 @@ use lib.Signed.{mag}
 use Rattle.std.proofs.lemmas.Fmt.{decimal_digit}
 use Rattle.std.proofs.lemmas.Str.{is_utf8-from_IsUtf8}
 use Rattle.hex.specs.Hex.{lower_digits, encode_lower, encode_with}
-use Rattle.caf_types.specs.Form.{Form, unit, flag, unsigned, signed, text, bytes, place, list, object, Parts, no_parts, part}
+use Rattle.caf_types.specs.ShapeTree.{ShapeTree, unit, flag, unsigned, signed, text, bytes, place, list, object, Parts, no_parts, part}
 use Rattle.caf_words.specs.Datum.{Datum, a_flag, a_signed, a_text, some_bytes, a_list, an_object, Data, no_data, more}
 use Rattle.caf_words.specs.Reading.{Got}
 use Rattle.caf_words.specs.Spelling.{AreBytes}
@@ -122,7 +122,7 @@ bytes_again bs rest h =
 -- ---- lists
 
 -- no form begins with a closing bracket, and none is empty
-no_bracket : (f : Form) (cs : List ℕ) → reading f (93 ∷ cs) ≡ Err (length (93 ∷ cs))
+no_bracket : (f : ShapeTree) (cs : List ℕ) → reading f (93 ∷ cs) ≡ Err (length (93 ∷ cs))
 no_bracket unit cs = refl
 no_bracket flag cs = refl
 no_bracket unsigned cs = refl
@@ -133,7 +133,7 @@ no_bracket place cs = refl
 no_bracket (list f) cs = refl
 no_bracket (object ps) cs = refl
 
-not_empty : (f : Form) → reading f [] ≡ Err 0
+not_empty : (f : ShapeTree) → reading f [] ≡ Err 0
 not_empty unit = refl
 not_empty flag = refl
 not_empty unsigned = refl
@@ -148,10 +148,10 @@ not_empty (object ps) = refl
 delimited : (c : ℕ) (r : List ℕ) → is_digit c ≡ false → NoDigit (c ∷ r)
 delimited c r h d s e = subst (λ x. is_digit x ≡ false) (let q : c ≡ d = heads e in q) h
 
-abbrev Again : Form → Type 0
+abbrev Again : ShapeTree → Type 0
 Again f = (d : Datum) → IsValue f d → (rest : List ℕ) → NoDigit rest → reading f (text_form f d ++ rest) ≡ got d rest
 
-values_again : (f : Form) → Again f → (d : Datum) (ds : Data) → IsValue f d → AllAre (IsValue f) ds → (rest : List ℕ) (n : ℕ) → length (joined (text_form f) [] (more d ds)) + 1 ≤ n
+values_again : (f : ShapeTree) → Again f → (d : Datum) (ds : Data) → IsValue f d → AllAre (IsValue f) ds → (rest : List ℕ) (n : ℕ) → length (joined (text_form f) [] (more d ds)) + 1 ≤ n
     → values (reading f) n (joined (text_form f) [] (more d ds) ++ 93 ∷ rest) ≡ got (more d ds) rest
 values_again f again d no_data h hs rest zero l = absurd (omega arith)
 values_again f again d (more e es) h hs rest zero l = absurd (omega arith)
@@ -165,7 +165,7 @@ values_again f again d (more e es) h hs rest (suc n) l =
     let c : length (comma ++ inner) ≡ length inner + 2 = omega arith in
     rw (t, again d h (44 ∷ 32 ∷ (inner ++ 93 ∷ rest)) (delimited 44 (32 ∷ (inner ++ 93 ∷ rest)) refl), values_again f again e es hs.0 hs.1 rest n (omega arith)) refl
 
-open_list : (f : Form) (cs : List ℕ) (ds : Data) (rest : List ℕ) → values (reading f) (length cs) cs ≡ got ds rest → values_or_none (reading f) cs ≡ got ds rest
+open_list : (f : ShapeTree) (cs : List ℕ) (ds : Data) (rest : List ℕ) → values (reading f) (length cs) cs ≡ got ds rest → values_or_none (reading f) cs ≡ got ds rest
 open_list f [] ds rest h = h
 open_list f (c ∷ cs) ds rest h = go (eqb c 93) refl
   where
@@ -173,7 +173,7 @@ open_list f (c ∷ cs) ds rest h = go (eqb c 93) refl
     go true q = absurd (no_got (length (93 ∷ cs)) ds rest (sym (rw (no_bracket f cs) refl) ∙ subst (λ x. values (reading f) (length (x ∷ cs)) (x ∷ cs) ≡ got ds rest) (eqb-true _ _ q) h))
     go false q = rw q h
 
-list_again : (f : Form) → Again f → (ds : Data) → AllAre (IsValue f) ds → (rest : List ℕ) → reading (list f) (text_form (list f) (a_list ds) ++ rest) ≡ got (a_list ds) rest
+list_again : (f : ShapeTree) → Again f → (ds : Data) → AllAre (IsValue f) ds → (rest : List ℕ) → reading (list f) (text_form (list f) (a_list ds) ++ rest) ≡ got (a_list ds) rest
 list_again f again no_data h rest = refl
 list_again f again (more d ds) h rest =
     let whole = joined (text_form f) [] (more d ds) in
@@ -183,7 +183,7 @@ list_again f again (more d ds) h rest =
 
 -- ---- objects
 
-field_again : (before name : List ℕ) (f : Form) → Again f → (d : Datum) → IsValue f d → (rest : List ℕ) → NoDigit rest → field_at before name (reading f) (before ++ (name ++ (colon ++ (text_form f d ++ rest)))) ≡ got d rest
+field_again : (before name : List ℕ) (f : ShapeTree) → Again f → (d : Datum) → IsValue f d → (rest : List ℕ) → NoDigit rest → field_at before name (reading f) (before ++ (name ++ (colon ++ (text_form f d ++ rest)))) ≡ got d rest
 field_again before name f again d h rest n =
     rw (literal_again before (name ++ (colon ++ (text_form f d ++ rest))), literal_again name (colon ++ (text_form f d ++ rest))) (again d h rest n)
 
@@ -195,7 +195,7 @@ behind_field : (ps : Parts) (ds : Data) → AreValues ps ds → (rest : List ℕ
 behind_field no_parts ds h rest = delimited 125 rest refl
 behind_field (part name f ps) ds h rest = rw (h.4) (delimited 44 _ refl)
 
-fields_again : (before name : List ℕ) (f : Form) (ps : Parts) → Again f → AllAgain ps → (d : Datum) (ds : Data) → IsValue f d → AreValues ps ds → (rest : List ℕ)
+fields_again : (before name : List ℕ) (f : ShapeTree) (ps : Parts) → Again f → AllAgain ps → (d : Datum) (ds : Data) → IsValue f d → AreValues ps ds → (rest : List ℕ)
     → fields_at (part name f ps) before (fields_text (part name f ps) before (more d ds) ++ 125 ∷ rest) ≡ got (more d ds) (125 ∷ rest)
 fields_again before name f ps again all d ds h hs rest =
     let tail = fields_text ps comma ds in
@@ -221,7 +221,7 @@ signed_again (pos n) lt rest h = above_again 0 n (decimal n ++ rest) rest (numbe
 signed_again (negsuc n) lt rest h = below_again n rest lt h
 
 mutual
-  pub reading_again : (f : Form) (d : Datum) → IsValue f d → (rest : List ℕ) → NoDigit rest → reading f (text_form f d ++ rest) ≡ got d rest
+  pub reading_again : (f : ShapeTree) (d : Datum) → IsValue f d → (rest : List ℕ) → NoDigit rest → reading f (text_form f d ++ rest) ≡ got d rest
   reading_again unit d h rest n = rw h refl
   reading_again flag d h rest n = rw (h.1) (flag_again h.0 rest)
   reading_again unsigned d h rest n = let lt : h.0 < 2 ^ 64 = h.1 in rw (h.2) (rw (number_again (2 ^ 64 - 1) h.0 (omega arith) (omega arith) rest n) refl)

@@ -1,8 +1,8 @@
 -- Reading values one after the other, as a loop does.
 use Rattle.std.proofs.Common.{◌≡◌, ℕ, suc, ◌-◌, ◌+◌, ◌<◌, true, false, List, [], ◌∷◌, ◌++◌, length, drop, get_or, Ok, Err, refl, sym, ap, ◌∙◌, arith}
 use Rattle.std.proofs.lemmas.List.{drop_more}
-use Rattle.caf_types.specs.Form.{Form}
-use Rattle.caf_types.specs.Shape.{parts, form, field_view, form_step, field_step}
+use Rattle.caf_types.specs.ShapeTree.{ShapeTree}
+use Rattle.caf_types.specs.Shape.{parts, tree, field_view, tree_step, field_step}
 use Rattle.caf_types.specs.declared.shape.Shape.TheFolds.{fold_out-Field}
 use Rattle.caf_types.specs.declared.shape.Field.{Field}
 use Rattle.caf_words.specs.Datum.{Datum, Data, no_data, more, front_of, data_of}
@@ -58,15 +58,15 @@ pub goes_on : (front : List Datum) (one : Got Datum) (others : List ℕ → Got 
     → one ≡ Ok (d, rest) → with_front front (then_more one others) ≡ total → with_front (front ++ d ∷ []) (others rest) ≡ total
 goes_on front one others d rest total e so_far = sym (regroup front d (others rest)) ∙ (rw e at so_far)
 
-field_is : (f : Field) → field_view f ≡ (f.name, form f.shape)
-field_is f = fold_out-Field Form (List ℕ × Form) form_step field_step f
+field_is : (f : Field) → field_view f ≡ (f.name, tree f.shape)
+field_is f = fold_out-Field ShapeTree (List ℕ × ShapeTree) tree_step field_step f
 
 pub fields_more : (fs : List Field) (i : ℕ) (f : Field) (before cs : List ℕ) → i < length fs → f ≡ get_or fs i f
-    → fields_at (parts (drop i fs)) before cs ≡ then_more (field_at before f.name (reading (form f.shape)) cs) (fields_at (parts (drop (i + 1) fs)) comma)
+    → fields_at (parts (drop i fs)) before cs ≡ then_more (field_at before f.name (reading (tree f.shape)) cs) (fields_at (parts (drop (i + 1) fs)) comma)
 fields_more fs i f before cs lt is =
     let e : drop i fs ≡ f ∷ drop (i + 1) fs = drop_more fs i f lt ∙ ap (λ (g : Field). g ∷ drop (i + 1) fs) (sym is) in
     ap (λ (gs : List Field). fields_at (parts gs) before cs) e
-    ∙ ap (λ (p : List ℕ × Form). then_more (field_at before p.0 (reading p.1) cs) (fields_at (parts (drop (i + 1) fs)) comma)) (field_is f)
+    ∙ ap (λ (p : List ℕ × ShapeTree). then_more (field_at before p.0 (reading p.1) cs) (fields_at (parts (drop (i + 1) fs)) comma)) (field_is f)
 
 -- ---- literals
 

@@ -3,7 +3,7 @@ use Rattle.std.proofs.Common.{◌≡◌, ℕ, ◌+◌, ◌*◌, ◌/◌, ◌%◌
 use Rattle.std.specs.Str.{is_utf8}
 use Rattle.std.proofs.lemmas.Str.{IsUtf8-append, IsUtf8-nil, is_utf8-from_IsUtf8, IsUtf8-from_is_utf8}
 use Rattle.hex.specs.Hex.{lower_digits, encode_lower, encode_with}
-use Rattle.caf_types.specs.Form.{text, bytes}
+use Rattle.caf_types.specs.ShapeTree.{text, bytes}
 use Rattle.caf_words.specs.Datum.{a_text, some_bytes}
 use Rattle.caf_words.specs.Reading.{◌>>=◌}
 use Rattle.caf_words.specs.Spelling.{AreBytes}

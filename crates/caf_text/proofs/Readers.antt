@@ -1,6 +1,6 @@
 -- How far the reader of each shape goes.
 use Rattle.std.proofs.Common.{◌≡◌, ℕ, suc, ◌-◌, ◌^◌, ◌<◌, ◌≤◌, pos, negsuc, true, false, List, [], ◌∷◌, ◌++◌, drop, Ok, codes, decimal, refl, sym, ap, subst, ◌∙◌, append_assoc, arith}
-use Rattle.caf_types.specs.Form.{Form, unit, flag, unsigned, signed, text, bytes, place, list, object, Parts, no_parts, part}
+use Rattle.caf_types.specs.ShapeTree.{ShapeTree, unit, flag, unsigned, signed, text, bytes, place, list, object, Parts, no_parts, part}
 use Rattle.caf_words.specs.Datum.{Datum, a_unit, a_flag, an_unsigned, a_signed, a_text, some_bytes, a_place, a_list, an_object, Data, no_data, more}
 use Rattle.caf_words.specs.Reading.{◌>>=◌}
 use Rattle.caf_text.specs.TextForm.{comma, colon, joined, text_form, scalar_text, fields_text, IsValue, AreValues, AllAre}
@@ -62,7 +62,7 @@ flag_stops =
 -- ---- lists
 
 -- the text of a list begins with its opening bracket
-list_stops : (f : Form) → ((cs : List ℕ) → Stops (IsValue f) (text_form f) (reading f) cs) → (d : Datum) × IsValue f d → (cs : List ℕ) → Stops (IsValue (list f)) (text_form (list f)) (reading (list f)) cs
+list_stops : (f : ShapeTree) → ((cs : List ℕ) → Stops (IsValue f) (text_form f) (reading f) cs) → (d : Datum) × IsValue f d → (cs : List ℕ) → Stops (IsValue (list f)) (text_form (list f)) (reading (list f)) cs
 list_stops f ones some cs = as_stops (IsValue (list f)) (λ d. (91 ∷ []) ++ drop 1 (text_form (list f) d)) (IsValue (list f)) (text_form (list f))
     (λ d h. (h, subst (λ e. text_form (list f) e ≡ (91 ∷ []) ++ drop 1 (text_form (list f) e)) (sym h.2) refl))
     (reading (list f)) cs
@@ -76,7 +76,7 @@ abbrev others_of : Data → Data
 others_of no_data = no_data
 others_of (more d ds) = ds
 
-field_stops : (before name : List ℕ) (f : Form) → ((cs : List ℕ) → Stops (IsValue f) (text_form f) (reading f) cs) → (d : Datum) × IsValue f d
+field_stops : (before name : List ℕ) (f : ShapeTree) → ((cs : List ℕ) → Stops (IsValue f) (text_form f) (reading f) cs) → (d : Datum) × IsValue f d
     → (cs : List ℕ) → Stops (IsValue f) (λ d. before ++ (name ++ (colon ++ text_form f d))) (field_at before name (reading f)) cs
 field_stops before name f ones some =
     literal_then before (λ ys. literal name ys >>= λ b. literal colon b.1 >>= λ c. reading f c.1) (IsValue f) (λ d. name ++ (colon ++ text_form f d)) some
@@ -93,7 +93,7 @@ object_stops ps all some cs = as_stops (IsValue (object ps)) (λ d. (123 ∷ [])
     (λ ds v. (an_object ds, refl))
     ys (all ys) (λ ds e. word_stops (125 ∷ []) (an_object ds) (all ys).2)) cs)
 
-fields_stops : (before name : List ℕ) (f : Form) (ps : Parts) → ((cs : List ℕ) → Stops (IsValue f) (text_form f) (reading f) cs) → (d : Datum) × IsValue f d
+fields_stops : (before name : List ℕ) (f : ShapeTree) (ps : Parts) → ((cs : List ℕ) → Stops (IsValue f) (text_form f) (reading f) cs) → (d : Datum) × IsValue f d
     → ((cs : List ℕ) → Stops (AreValues ps) (fields_text ps comma) (fields_at ps comma) cs) → (ds : Data) × AreValues ps ds
     → (cs : List ℕ) → Stops (AreValues (part name f ps)) (fields_text (part name f ps) before) (fields_at (part name f ps) before) cs
 fields_stops before name f ps ones some all somes cs =
@@ -110,7 +110,7 @@ fields_stops before name f ps ones some all somes cs =
 -- ---- every shape
 
 mutual
-  pub some_value : (f : Form) → (d : Datum) × IsValue f d
+  pub some_value : (f : ShapeTree) → (d : Datum) × IsValue f d
   some_value unit = (a_unit, refl)
   some_value flag = (a_flag true, (true, refl))
   some_value unsigned = (an_unsigned 0, (0, omega arith, refl))
@@ -126,7 +126,7 @@ mutual
   some_values (part name f ps) = let s = some_value f in let t = some_values ps in (more s.0 t.0, (s.0, t.0, s.1, t.1, refl))
 
 mutual
-  pub reading_stops : (f : Form) (cs : List ℕ) → Stops (IsValue f) (text_form f) (reading f) cs
+  pub reading_stops : (f : ShapeTree) (cs : List ℕ) → Stops (IsValue f) (text_form f) (reading f) cs
   reading_stops unit = unit_stops
   reading_stops flag = flag_stops
   reading_stops unsigned = unsigned_stops

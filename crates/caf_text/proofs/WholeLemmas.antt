@@ -1,6 +1,6 @@
 -- Reading a whole input is exact, and stops at the end of its longest front.
 use Rattle.std.proofs.Common.{◌≡◌, ℕ, suc, ◌+◌, ◌-◌, ◌<◌, ◌≤◌, List, [], ◌∷◌, ◌++◌, length, length-append, take, Option, Some, None, Ok, Err, IsUtf8, refl, sym, ap, subst, ◌∙◌, append_assoc, append-nil, arith}
-use Rattle.caf_types.specs.Form.{Form}
+use Rattle.caf_types.specs.ShapeTree.{ShapeTree}
 use Rattle.caf_words.specs.Datum.{Datum}
 use Rattle.caf_words.specs.Reading.{Got, ◌>>=◌}
 use Rattle.caf_text.specs.Front.{IsFront, IsLongestFront}
@@ -15,10 +15,10 @@ nothing_behind : NoDigit []
 nothing_behind c r e = absurd (no_cons e)
 
 -- a text form is read whole
-read_whole : (f : Form) (d : Datum) (cs : List ℕ) → HasText f d cs → reading f cs ≡ Ok (d, [])
+read_whole : (f : ShapeTree) (d : Datum) (cs : List ℕ) → HasText f d cs → reading f cs ≡ Ok (d, [])
 read_whole f d cs h = ap (reading f) (h.1 ∙ sym (append-nil (text_form f d))) ∙ reading_again f d h.0 [] nothing_behind
 
-pub read_back : (f : Form) (d : Datum) (cs : List ℕ) → HasText f d cs → untext f cs ≡ Ok d
+pub read_back : (f : ShapeTree) (d : Datum) (cs : List ℕ) → HasText f d cs → untext f cs ≡ Ok d
 read_back f d cs h = ap (λ y. y >>= λ x. nothing_left x.0 x.1) (read_whole f d cs h)
 
 -- ---- the two ways in which an input is no form
@@ -32,7 +32,7 @@ unfolding taken
 no_rest None c s d e = absurd (let h : Err (length (c ∷ s)) ≡ Ok (d, []) = e in cc)
 no_rest (Some x) c s d e = absurd (no_cons (sym (ap taken e)))
 
-module _ (f : Form) (cs : List ℕ) (o : Option Datum) (front back : List ℕ) (p : StopsAt (IsValue f) (text_form f) (reading f) cs o front back) (u : IsUtf8 cs) where
+module _ (f : ShapeTree) (cs : List ℕ) (o : Option Datum) (front back : List ℕ) (p : StopsAt (IsValue f) (text_form f) (reading f) cs o front back) (u : IsUtf8 cs) where
   some_front : (o : Option Datum) → Good (IsValue f) (text_form f) o front → IsFront f front
   some_front (Some d) g = (d, [], (g.0, append-nil front ∙ g.1))
   some_front None g = (g.0, g.1, (g.2, g.3))
@@ -77,12 +77,12 @@ module _ (f : Form) (cs : List ℕ) (o : Option Datum) (front back : List ℕ) (
         longest = λ m le h. subst (λ k. m ≤ k) (sym n) (at_most m (length front) (not_longer m le h));
       }
 
-no_form_left : (f : Form) (cs : List ℕ) (left : ℕ) → untext f cs ≡ Err left → (d : Datum) → HasText f d cs → ⊥
+no_form_left : (f : ShapeTree) (cs : List ℕ) (left : ℕ) → untext f cs ≡ Err left → (d : Datum) → HasText f d cs → ⊥
 no_form_left f cs left e d h = absurd (let q : Err left ≡ Ok d = sym e ∙ read_back f d cs h in cc)
 
 -- ---- the whole
 
-value_of : (f : Form) (cs : List ℕ) (d : Datum) (o : Option Datum) (front back : List ℕ) → StopsAt (IsValue f) (text_form f) (reading f) cs o front back → IsUtf8 cs → (ends o back >>= λ x. nothing_left x.0 x.1) ≡ Ok d → HasText f d cs
+value_of : (f : ShapeTree) (cs : List ℕ) (d : Datum) (o : Option Datum) (front back : List ℕ) → StopsAt (IsValue f) (text_form f) (reading f) cs o front back → IsUtf8 cs → (ends o back >>= λ x. nothing_left x.0 x.1) ≡ Ok d → HasText f d cs
 value_of f cs d None front back p u e = absurd cc
 value_of f cs d (Some x) front (c ∷ back) p u e = absurd cc
 value_of f cs d (Some x) front [] p u e =
@@ -90,7 +90,7 @@ value_of f cs d (Some x) front [] p u e =
     let same : x ≡ d = cc in
     subst (λ y. HasText f y cs) same (g.0, p.parts ∙ append-nil front ∙ g.1)
 
-pub has_text : (f : Form) (d : Datum) (cs : List ℕ) → IsUtf8 cs → untext f cs ≡ Ok d → HasText f d cs
+pub has_text : (f : ShapeTree) (d : Datum) (cs : List ℕ) → IsUtf8 cs → untext f cs ≡ Ok d → HasText f d cs
 has_text f d cs u e =
     let p = reading_stops f cs in
     value_of f cs d p.0 p.1 p.2 p.3 u (ap (λ y. y >>= λ x. nothing_left x.0 x.1) (sym p.3.is) ∙ e)
@@ -100,11 +100,11 @@ left_is None back left e = cc
 left_is (Some x) [] left e = absurd cc
 left_is (Some x) (c ∷ back) left e = cc
 
-pub longest_front : (f : Form) (cs : List ℕ) (left n : ℕ) → IsUtf8 cs → untext f cs ≡ Err left → n ≡ length cs - left → IsLongestFront f cs n × ((d : Datum) → HasText f d cs → ⊥)
+pub longest_front : (f : ShapeTree) (cs : List ℕ) (left n : ℕ) → IsUtf8 cs → untext f cs ≡ Err left → n ≡ length cs - left → IsLongestFront f cs n × ((d : Datum) → HasText f d cs → ⊥)
 longest_front f cs left n u e is =
     let p = reading_stops f cs in
     let q : left ≡ length p.2 = left_is p.0 p.2 left (ap (λ y. y >>= λ x. nothing_left x.0 x.1) (sym p.3.is) ∙ e) in
     (subst (IsLongestFront f cs) (ap (λ k. length cs - k) (sym q) ∙ sym is) (is_longest f cs p.0 p.1 p.2 p.3 u), no_form_left f cs left e)
 
-pub one_value : (f : Form) (d e : Datum) (cs : List ℕ) → HasText f d cs → HasText f e cs → d ≡ e
+pub one_value : (f : ShapeTree) (d e : Datum) (cs : List ℕ) → HasText f d cs → HasText f e cs → d ≡ e
 one_value f d e cs h k = let q : Ok d ≡ Ok e = sym (read_back f d cs h) ∙ read_back f e cs k in cc

@@ -1,6 +1,6 @@
 -- What the readers of the code answered is what reading gives.
 use Rattle.std.specs.Prelude.{◌≡◌, ℕ, List, Result, Ok, Err}
-use Rattle.caf_types.specs.Form.{Form}
+use Rattle.caf_types.specs.ShapeTree.{ShapeTree}
 use Rattle.caf_words.specs.Datum.{Datum}
 use Rattle.caf_text.specs.TextForm.{HasText}
 use Rattle.caf_text.specs.Front.{IsLongestFront}
@@ -19,6 +19,6 @@ Gives view (Ok x) read = read ≡ Ok (view x)
 Gives view (Err e) read = Fails e read
 
 -- the input is no value's text form, and goes on as one for so many bytes
-abbrev pub IsNoForm : TextFault → Form → List ℕ → Type 0
+abbrev pub IsNoForm : TextFault → ShapeTree → List ℕ → Type 0
 IsNoForm faults.Memory f input = Unit {0}
 IsNoForm (faults.At n) f input = IsLongestFront f input n × ((d : Datum) → HasText f d input → ⊥)

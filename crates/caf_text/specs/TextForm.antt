@@ -5,7 +5,7 @@ use Rattle.std.specs.Int.{w64}
 use Rattle.std.specs.Int.RustNames.{FitsSigned}
 use Rattle.std.specs.Str.{IsUtf8}
 use Rattle.hex.specs.Hex.{lower_digits, encode_lower}
-use Rattle.caf_types.specs.Form.{Form, unit, flag, unsigned, signed, text, bytes, place, list, object, Parts, no_parts, part}
+use Rattle.caf_types.specs.ShapeTree.{ShapeTree, unit, flag, unsigned, signed, text, bytes, place, list, object, Parts, no_parts, part}
 use Rattle.caf_words.specs.Datum.{Datum, a_unit, a_flag, an_unsigned, a_signed, a_text, some_bytes, a_place, a_list, an_object, Data, no_data, more}
 use Rattle.caf_words.specs.Spelling.{AreBytes}
 
@@ -61,7 +61,7 @@ field_text before name one others no_data = []
 field_text before name one others (more d ds) = before ++ (name ++ (colon ++ (one d ++ others ds)))
 
 abbrev mutual
-  pub text_form : Form → Datum → List ℕ
+  pub text_form : ShapeTree → Datum → List ℕ
   text_form (list f) = list_text (text_form f)
   text_form (object ps) = object_text (fields_text ps [])
   text_form _ = scalar_text
@@ -77,7 +77,7 @@ AllAre P no_data = Unit {0}
 AllAre P (more d ds) = P d × AllAre P ds
 
 abbrev mutual
-  pub IsValue : Form → Datum → Type 0
+  pub IsValue : ShapeTree → Datum → Type 0
   IsValue unit d = d ≡ a_unit
   IsValue flag d = (b : Bool) × (d ≡ a_flag b)
   IsValue unsigned d = (n : ℕ) × (n < 2 ^ 64) × (d ≡ an_unsigned n)
@@ -94,5 +94,5 @@ abbrev mutual
   AreValues (part name f ps) ds = (e : Datum) × (es : Data) × IsValue f e × AreValues ps es × (ds ≡ more e es)
 
 -- the bytes are the text form of the value, which is one of the shape
-abbrev pub HasText : Form → Datum → List ℕ → Type 0
+abbrev pub HasText : ShapeTree → Datum → List ℕ → Type 0
 HasText f d bs = IsValue f d × (bs ≡ text_form f d)

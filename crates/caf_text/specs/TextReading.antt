@@ -1,7 +1,7 @@
 -- Reading a value from its text form, byte by byte, up to the first byte that no form goes on with.
 use Rattle.std.specs.Prelude.{ℕ, zero, suc, ◌+◌, ◌-◌, ◌*◌, ◌^◌, ◌==◌, ◌&&◌, ◌||◌, nat_lt, nat_le, if◌then◌else◌, Bool, true, false, pos, negsuc, List, [], ◌∷◌, ◌++◌, length, codes, Option, Some, None, Result, Ok, Err}
 use Rattle.std.specs.Str.{is_utf8}
-use Rattle.caf_types.specs.Form.{Form, unit, flag, unsigned, signed, text, bytes, place, list, object, Parts, no_parts, part}
+use Rattle.caf_types.specs.ShapeTree.{ShapeTree, unit, flag, unsigned, signed, text, bytes, place, list, object, Parts, no_parts, part}
 use Rattle.caf_words.specs.Datum.{Datum, a_unit, a_flag, an_unsigned, a_signed, a_text, some_bytes, a_place, a_list, an_object, Data, no_data, more}
 use Rattle.caf_words.specs.Reading.{Got, ◌>>=◌, then_more}
 use Rattle.caf_text.specs.TextForm.{comma, colon, is_escaped}
@@ -154,7 +154,7 @@ abbrev pub object_at : (List ℕ → Got Data) → List ℕ → Got Datum
 object_at fields cs = literal (123 ∷ []) cs >>= λ a. fields a.1 >>= λ x. literal (125 ∷ []) x.1 >>= λ b. Ok (an_object x.0, b.1)
 
 abbrev mutual
-  pub reading : Form → List ℕ → Got Datum
+  pub reading : ShapeTree → List ℕ → Got Datum
   reading unit = word (codes "unit") a_unit
   reading flag = flag_at
   reading unsigned = λ cs. number (2 ^ 64 - 1) cs >>= λ x. Ok (an_unsigned x.0, x.1)
@@ -176,5 +176,5 @@ abbrev pub nothing_left : Datum → List ℕ → Result Datum ℕ
 nothing_left d [] = Ok d
 nothing_left d (c ∷ cs) = Err (length (c ∷ cs))
 
-abbrev pub untext : Form → List ℕ → Result Datum ℕ
+abbrev pub untext : ShapeTree → List ℕ → Result Datum ℕ
 untext f cs = reading f cs >>= λ x. nothing_left x.0 x.1

@@ -1,5 +1,5 @@
 ghost use Rattle.std.specs.Prelude.{[], length, map};
-ghost use Rattle.caf_types.specs.Shape.{form, parts};
+ghost use Rattle.caf_types.specs.Shape.{tree, parts};
 ghost use Rattle.caf_words.specs.Datum.{data_of, a_text, some_bytes, an_object};
 ghost use Rattle.caf_words.specs.Value.{datum};
 ghost use Rattle.caf_text.specs.Answer.{Gives};
@@ -80,7 +80,7 @@ pub(crate) fn value_at<'a>(
     shape: &Shape,
     bytes: &'a [u8],
 ) -> Result<(Value, &'a [u8]), Stop>
-    ensures { Gives (λ x. (datum x.0, x.1.now)) result (reading (form shape.now) bytes.now) }
+    ensures { Gives (λ x. (datum x.0, x.1.now)) result (reading (tree shape.now) bytes.now) }
 {
     match shape {
         Shape::Unit => {
@@ -121,7 +121,7 @@ fn items_at<'a>(
     shape: &Shape,
     bytes: &'a [u8],
 ) -> Result<(Vec<Value>, &'a [u8]), Stop>
-    ensures { Gives (λ x. (data_of (map datum x.0.items), x.1.now)) result (texts.values_or_none (reading (form shape.now)) bytes.now) }
+    ensures { Gives (λ x. (data_of (map datum x.0.items), x.1.now)) result (texts.values_or_none (reading (tree shape.now)) bytes.now) }
 {
     match bytes {
         [] => Err(Stop::Left(0)),
@@ -140,7 +140,7 @@ fn values_at<'a>(
     shape: &Shape,
     bytes: &'a [u8],
 ) -> Result<(Vec<Value>, &'a [u8]), Stop>
-    ensures { Gives (λ x. (data_of (map datum x.0.items), x.1.now)) result (texts.values (reading (form shape.now)) (length bytes.now) bytes.now) }
+    ensures { Gives (λ x. (data_of (map datum x.0.items), x.1.now)) result (texts.values (reading (tree shape.now)) (length bytes.now) bytes.now) }
 {
     let mut items = Vec::new(alloc);
     let mut rest = bytes;
@@ -214,7 +214,7 @@ fn field_at<'a>(
     before: &[u8],
     bytes: &'a [u8],
 ) -> Result<(Value, &'a [u8]), Stop>
-    ensures { Gives (λ x. (datum x.0, x.1.now)) result (texts.field_at before.now field.now.name (reading (form field.now.shape)) bytes.now) }
+    ensures { Gives (λ x. (datum x.0, x.1.now)) result (texts.field_at before.now field.now.name (reading (tree field.now.shape)) bytes.now) }
 {
     let rest = literal(before, bytes)?;
     let rest = literal(field.name.as_str().as_bytes(), rest)?;

@@ -1,5 +1,5 @@
 ghost use Rattle.std.specs.Prelude.{◌≡◌, ◌-◌, IfOk, IfErr};
-ghost use Rattle.caf_types.specs.Shape.{form};
+ghost use Rattle.caf_types.specs.Shape.{tree};
 ghost use Rattle.caf_words.specs.Value.{datum};
 ghost use Rattle.caf_text.specs.Answer.{Gives, IsNoForm};
 ghost use Rattle.caf_text.specs.TextForm.{HasText};
@@ -17,8 +17,8 @@ use std::alloc::Global;
 /// `At` comes exactly where it is the form of none, with the length in bytes of the longest front of
 /// the text that is the front of some text form of the shape.
 pub fn read_text(alloc: Global, shape: &Shape, text: &str) -> Result<Value, TextFault>
-    ensures found { IfOk result (λ value. HasText (form shape.now) (datum value) text.now) }
-    ensures faulty { IfErr result (λ fault. IsNoForm fault (form shape.now) text.now) }
+    ensures found { IfOk result (λ value. HasText (tree shape.now) (datum value) text.now) }
+    ensures faulty { IfErr result (λ fault. IsNoForm fault (tree shape.now) text.now) }
 {
     let bytes = text.as_bytes();
     match whole_value(alloc, shape, bytes) {
@@ -35,7 +35,7 @@ fn place_of(length: u64, left: u64) -> u64
 }
 
 fn whole_value(alloc: Global, shape: &Shape, bytes: &[u8]) -> Result<Value, Stop>
-    ensures { Gives (λ value. datum value) result (untext (form shape.now) bytes.now) }
+    ensures { Gives (λ value. datum value) result (untext (tree shape.now) bytes.now) }
 {
     let (value, rest) = value_at(alloc, shape, bytes)?;
     if !rest.is_empty() {

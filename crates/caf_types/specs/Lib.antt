@@ -1,4 +1,4 @@
-pub mod Form
+pub mod ShapeTree
 pub mod Name
 pub mod NameAnswer
 pub mod Reason

@@ -2,12 +2,12 @@
 use Rattle.std.specs.Prelude.{ℕ, ◌+◌, ◌-◌, ◌==◌, ◌||◌, nat_lt, bytes_eq, if◌then◌else◌, Bool, true, false, List, [], ◌∷◌, ◌++◌, length, Option, Some, None, is_some, codes, slice_get}
 use Rattle.std.specs.List.{position_from}
 use Rattle.std.specs.Option.{option_map}
-use Rattle.caf_types.specs.Form.{Form, unit, flag, unsigned, signed, text, bytes, place, list, depth}
+use Rattle.caf_types.specs.ShapeTree.{ShapeTree, unit, flag, unsigned, signed, text, bytes, place, list, depth}
 
 -- a type: its name and its shape
 pub record Named : Type 0 where
   pub name : List ℕ
-  pub shape : Form
+  pub shape : ShapeTree
 
 -- the types by their IDs, and the names of the blocks
 pub record Table : Type 0 where
@@ -29,7 +29,7 @@ abbrev pub id_of : List (ℕ × Named) → List ℕ → Option ℕ
 id_of [] name = None
 id_of (t ∷ ts) name = if bytes_eq t.1.name name then Some t.0 else id_of ts name
 
-abbrev pub shape_at : Table → ℕ → Option Form
+abbrev pub shape_at : Table → ℕ → Option ShapeTree
 shape_at t id = option_map (λ (n : Named). n.shape) (type_at t.types id)
 
 abbrev pub name_at : Table → ℕ → Option (List ℕ)
@@ -52,7 +52,7 @@ with_block t block first ns = record { types = t.types ++ numbered first ns; blo
 abbrev pub type_in : ℕ → List Named → ℕ → Option Named
 type_in first ns id = if nat_lt id first then None else slice_get ns (id - first)
 
-abbrev pub shape_in : ℕ → List Named → ℕ → Option Form
+abbrev pub shape_in : ℕ → List Named → ℕ → Option ShapeTree
 shape_in first ns id = option_map (λ (n : Named). n.shape) (type_in first ns id)
 
 abbrev pub name_in : ℕ → List Named → ℕ → Option (List ℕ)
@@ -64,7 +64,7 @@ find_in first ns name = position_from (λ (n : Named). bytes_eq n.name name) fir
 
 -- ---- the types that every table has
 
-abbrev pub named : List ℕ → Form → Named
+abbrev pub named : List ℕ → ShapeTree → Named
 named name shape = record { name = name; shape = shape }
 
 abbrev pub built_in_types : List Named

@@ -1,6 +1,6 @@
 ghost use Rattle.std.specs.Prelude.{◌≡◌, ◌++◌, ◌∷◌, [], map, IsTrue, OnOk};
 ghost use Rattle.caf_types.specs.Name.{is_name};
-ghost use Rattle.caf_types.specs.Shape.{form, field_view, entry_views};
+ghost use Rattle.caf_types.specs.Shape.{tree, field_view, entry_views};
 ghost use Rattle.caf_types.specs.Table.{named};
 
 use crate::{Entry, Field, Memory, Name, Seq, Shape};
@@ -15,7 +15,7 @@ pub fn declare_field(
     shape: Shape,
 ) -> Result<(), Memory>
     requires { IsTrue (is_name name.now) }
-    ensures { OnOk result (map field_view fields.new ≡ map field_view fields.old ++ (name.now, form shape) ∷ []) }
+    ensures { OnOk result (map field_view fields.new ≡ map field_view fields.old ++ (name.now, tree shape) ∷ []) }
 {
     let name = Name::of(alloc, name)?;
     fields.push(Field { name, shape })?;
@@ -30,7 +30,7 @@ pub fn declare_type(
     shape: Shape,
 ) -> Result<(), Memory>
     requires { IsTrue (is_name name.now) }
-    ensures { OnOk result (entry_views entries.new ≡ entry_views entries.old ++ named name.now (form shape) ∷ []) }
+    ensures { OnOk result (entry_views entries.new ≡ entry_views entries.old ++ named name.now (tree shape) ∷ []) }
 {
     let name = Name::of(alloc, name)?;
     entries.push(Entry { name, shape })?;

@@ -3,7 +3,9 @@ use crate::Reason;
 /// Which of a mailbox's two lists an envelope goes to.
 #[derive(Clone, Copy, Debug, PartialEq, Eq, Drop)]
 pub enum Priority {
+    /// Handled before everything normal.
     Urgent,
+    /// Handled where nothing urgent is left.
     Normal,
 }
 
@@ -23,14 +25,22 @@ pub struct Mid {
 pub enum Notice {
     /// A run begins.
     Start,
-    /// A run is at rest.
+    /// A run is at rest, and is to end.
     Stop,
-    /// A linked actor quit.
+    /// The sender quit, or wants the receiver to quit, with that reason.
     Exit(u32, Reason),
+    /// The sender and the receiver are linked from now on.
     Link(u32),
+    /// The sender and the receiver are no longer linked.
     Unlink(u32),
+    /// The sender is to be told when the receiver quits.
     Watch(u32),
+    /// The sender is no longer to be told when the receiver quits.
     Unwatch(u32),
-    /// A watched actor quit.
+    /// The sender, which the receiver watches, quit with that reason.
     Down(u32, Reason),
+    /// The receiver begins: its parent started it.
+    Begin(u32),
+    /// Time went on by one tick.
+    Tick(u32),
 }

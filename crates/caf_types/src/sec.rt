@@ -3,7 +3,7 @@ ghost use Rattle.caf_types.specs.Sec.{sec_number, sec_name};
 
 /// The errors that a request may be answered with.
 ///
-/// All but `Failed` are named after the CAF manual's default error codes; the numbers are this
+/// All but `Failed` and `NoPlace` are named after the CAF manual's default error codes; the numbers are this
 /// project's own.
 #[derive(Clone, Copy, Debug, PartialEq, Eq, Drop)]
 pub enum Sec {
@@ -13,10 +13,14 @@ pub enum Sec {
     UnexpectedResponse = 2,
     /// The receiver had quit.
     RequestReceiverDown = 3,
+    /// The request's time was over before a response came.
+    RequestTimeout = 4,
     /// The receiver quit while it held the request.
     BrokenPromise = 5,
     /// The receiver couldn't compute an answer.
     Failed = 6,
+    /// All places for new actors are taken.
+    NoPlace = 7,
 }
 
 impl Sec {
@@ -35,8 +39,10 @@ impl Sec {
             Sec::UnexpectedMessage => "unexpected_message",
             Sec::UnexpectedResponse => "unexpected_response",
             Sec::RequestReceiverDown => "request_receiver_down",
+            Sec::RequestTimeout => "request_timeout",
             Sec::BrokenPromise => "broken_promise",
             Sec::Failed => "failed",
+            Sec::NoPlace => "no_place",
         }
     }
 }

@@ -1,6 +1,6 @@
 ghost use Rattle.std.specs.Prelude.{◌≡◌, nat_lt, IfOk};
-ghost use Rattle.caf_types.specs.Form.{list, object, depth, parts_depth};
-ghost use Rattle.caf_types.specs.Shape.{form, parts};
+ghost use Rattle.caf_types.specs.ShapeTree.{list, object, depth, parts_depth};
+ghost use Rattle.caf_types.specs.Shape.{tree, parts};
 
 use crate::{Memory, Name};
 use sqlite_items::{Boxed, Items};
@@ -48,14 +48,14 @@ pub struct Entry {
 impl Shape {
     /// The shape of lists of `item`.
     pub fn list_of(alloc: Global, item: Shape) -> Result<Shape, Memory>
-        ensures { IfOk result (λ shape. form shape ≡ list (form item)) }
+        ensures { IfOk result (λ shape. tree shape ≡ list (tree item)) }
     {
         Ok(Shape::List(Boxed::new(alloc, item)?))
     }
 
     /// The shape of objects with these fields.
     pub fn object_of(fields: Items<Field>) -> Shape
-        ensures { form result ≡ object (parts fields) }
+        ensures { tree result ≡ object (parts fields) }
     {
         Shape::Object(fields)
     }
@@ -64,7 +64,7 @@ impl Shape {
 /// Whether a shape nests deeper than `limit`. A shape without parts nests 1.
 #[cycle(nests)]
 pub(crate) fn nests_past(shape: &Shape, limit: u64) -> bool
-    ensures { result ≡ nat_lt limit (depth (form shape.now)) }
+    ensures { result ≡ nat_lt limit (depth (tree shape.now)) }
 {
     if limit == 0 {
         return true;

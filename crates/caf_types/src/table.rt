@@ -2,7 +2,7 @@ ghost use Rattle.std.specs.Prelude.{◌≡◌, ◌+◌, ◌≤◌, ◌<◌, ◌^
 ghost use Rattle.std.specs.Option.{option_map};
 ghost use Rattle.caf_types.specs.Table as tables;
 ghost use Rattle.caf_types.specs.Table.{type_at, id_of, shape_at, name_at, with_block, built_in, built_in_types, has_name, name_is_in, first_taken, is_named_in, first_name, first_deep, refusal};
-ghost use Rattle.caf_types.specs.Shape.{form, entry_view, entry_views};
+ghost use Rattle.caf_types.specs.Shape.{tree, entry_view, entry_views};
 ghost use Rattle.caf_types.specs.TypeTable.{span_types, blocks_types, block_names, seen, TableAnswer};
 ghost use Rattle.caf_types.specs.declared.shape.Entry.{Entry};
 ghost use Rattle.caf_types.specs.declared.table.TableFault.TheVariants as faults;
@@ -94,7 +94,7 @@ impl TypeTable {
 
     /// The shape of the type `id`; None exactly where the table has no such ID.
     pub fn shape(&self, id: TypeId) -> Option<&Shape>
-        ensures { option_map (λ s. form s.now) result ≡ shape_at (seen self.now) id.0 }
+        ensures { option_map (λ s. tree s.now) result ≡ shape_at (seen self.now) id.0 }
     {
         match self.entry(id.0) {
             Some(entry) => Some(&entry.shape),

@@ -120,8 +120,10 @@ fn errors_and_reasons_have_numbers_and_names(rt: HostRuntime) {
         (Sec::UnexpectedMessage, 1, "unexpected_message"),
         (Sec::UnexpectedResponse, 2, "unexpected_response"),
         (Sec::RequestReceiverDown, 3, "request_receiver_down"),
+        (Sec::RequestTimeout, 4, "request_timeout"),
         (Sec::BrokenPromise, 5, "broken_promise"),
         (Sec::Failed, 6, "failed"),
+        (Sec::NoPlace, 7, "no_place"),
     ] {
         assert_eq!(rt; sec.number(), number);
         assert_eq!(rt; sec.as_str(), name);

@@ -3,8 +3,8 @@ use Rattle.std.proofs.Common.{◌≡◌, Ok, Err, eq-eqb, ℕ, zero, suc, ◌+�
 use Rattle.std.proofs.lemmas.List.{drop_all, drop_more}
 use Rattle.std.proofs.lemmas.Bool.Decides.{nat_tests}
 use Rattle.std.proofs.lemmas.Bool.{ne_eqb}
-use Rattle.caf_types.specs.Shape.{parts, form, field_view, form_step, field_step}
-use Rattle.caf_types.specs.Form.{Form, no_parts, count_parts}
+use Rattle.caf_types.specs.Shape.{parts, tree, field_view, tree_step, field_step}
+use Rattle.caf_types.specs.ShapeTree.{ShapeTree, no_parts, count_parts}
 use Rattle.caf_types.specs.declared.shape.Shape.TheFolds.{fold_out-Field}
 use Rattle.caf_types.specs.declared.shape.Field.{Field}
 use Rattle.caf_words.specs.Datum.{count, data_of, is_none, each_fits, an_object}
@@ -40,14 +40,14 @@ object_wrong fs ws rest w first other = rw (first, count_fields fs, ne_eqb w (le
 pub object_right : (fs : List Field) (ws rest : List ℕ) (w : ℕ) → first_of ws ≡ Ok (w, rest) → w ≡ length fs → object_at (count_parts (parts fs)) (each_reading (parts fs)) ws ≡ (each_reading (parts fs) rest >>= λ x. Ok (an_object x.0, x.1))
 object_right fs ws rest w first same = rw (first, count_fields fs, eq-eqb w (length fs) same) refl
 
-pub field_is : (f : Field) → (field_view f).1 ≡ form f.shape
-field_is f = ap (λ (p : List ℕ × Form). p.1) (fold_out-Field Form (List ℕ × Form) form_step field_step f)
+pub field_is : (f : Field) → (field_view f).1 ≡ tree f.shape
+field_is f = ap (λ (p : List ℕ × ShapeTree). p.1) (fold_out-Field ShapeTree (List ℕ × ShapeTree) tree_step field_step f)
 
-pub fields_more : (fs : List Field) (i : ℕ) (f : Field) (ws : List ℕ) → i < length fs → f ≡ get_or fs i f → each_reading (parts (drop i fs)) ws ≡ then_more (reading (form f.shape) ws) (each_reading (parts (drop (i + 1) fs)))
+pub fields_more : (fs : List Field) (i : ℕ) (f : Field) (ws : List ℕ) → i < length fs → f ≡ get_or fs i f → each_reading (parts (drop i fs)) ws ≡ then_more (reading (tree f.shape) ws) (each_reading (parts (drop (i + 1) fs)))
 fields_more fs i f ws lt is =
     let e : drop i fs ≡ f ∷ drop (i + 1) fs = drop_more fs i f lt ∙ ap (λ (g : Field). g ∷ drop (i + 1) fs) (sym is) in
     ap (λ (gs : List Field). each_reading (parts gs) ws) e
-    ∙ ap (λ (g : Form). then_more (reading g ws) (each_reading (parts (drop (i + 1) fs)))) (field_is f)
+    ∙ ap (λ (g : ShapeTree). then_more (reading g ws) (each_reading (parts (drop (i + 1) fs)))) (field_is f)
 
 pub count_values : (vs : List Value) → count (data_of (map datum vs)) ≡ length vs
 count_values [] = refl

@@ -7,7 +7,7 @@ use Rattle.std.specs.Int.RustNames.{FitsSigned}
 use Rattle.std.specs.Str.{is_utf8}
 use Rattle.std.proofs.lemmas.Bool.{ltb-true, lt-ltb}
 use Rattle.std.proofs.lemmas.Str.{IsUtf8-from_is_utf8, is_utf8-from_IsUtf8}
-use Rattle.caf_types.specs.Form.{Form, unit, flag, unsigned, signed, text, bytes, place, list, object, Parts, no_parts, part}
+use Rattle.caf_types.specs.ShapeTree.{ShapeTree, unit, flag, unsigned, signed, text, bytes, place, list, object, Parts, no_parts, part}
 use Rattle.caf_words.specs.Datum.{Datum, a_unit, a_flag, an_unsigned, a_signed, a_text, some_bytes, a_place, a_list, an_object, Data, no_data, more, count, is_unit, is_flag, is_unsigned, is_signed, is_text, is_bytes, is_place, is_list, is_object, is_none, on_first, all_fit, fits, each_fits, is_i64, are_bytes, is_counted, is_in_range, are_in_range}
 use Rattle.caf_words.specs.Spelling.{spelling, spellings, AreBytes, Spells, EachSpells, PartsSpell}
 
@@ -120,7 +120,7 @@ first_spelled test others S T s t (more d ds) e r =
     (d, ds, refl, spelling d, spellings ds, s d p.0 q.0, t ds p.1 q.1, refl)
 
 mutual
-  pub is_spelled : (f : Form) → IsSpelled (fits f) (Spells f)
+  pub is_spelled : (f : ShapeTree) → IsSpelled (fits f) (Spells f)
   is_spelled unit = λ d e r. let p = unit_is d e in (p, ap spelling p)
   is_spelled flag = λ d e r. let p = flag_is d e in (p.0, p.1, ap spelling p.1)
   is_spelled unsigned = λ d e r. let p = unsigned_is d e in (p.0, ltb-true p.0 (2 ^ 64) (sym (ap is_in_range p.1) ∙ r), p.1, ap spelling p.1)
@@ -186,7 +186,7 @@ first_kept test others S T k ks ds ws s =
     (record { fits = and_true p.fits q.fits; range = and_true p.range q.range; words = s.7 ∙ rw (p.words, q.words) refl })
 
 mutual
-  pub is_kept : (f : Form) → IsKept (fits f) (Spells f)
+  pub is_kept : (f : ShapeTree) → IsKept (fits f) (Spells f)
   is_kept unit = λ d ws s. moved is_unit d a_unit ws s.0 (record { fits = refl; range = refl; words = s.1 })
   is_kept flag = λ d ws s. moved is_flag d (a_flag s.0) ws s.1 (record { fits = refl; range = refl; words = s.2 })
   is_kept unsigned = λ d ws s. moved is_unsigned d (an_unsigned s.0) ws s.2 (record { fits = refl; range = lt-ltb s.0 (2 ^ 64) s.1; words = s.3 })

@@ -5,7 +5,7 @@ use Rattle.std.specs.Int.{w64, cast_signed}
 use Rattle.std.specs.Option.{option_map}
 use Rattle.std.specs.Str.{is_utf8}
 use Rattle.std.proofs.lemmas.List.{length-drop, append-nil, drop_more}
-use Rattle.caf_types.specs.Form.{Form, unit, flag, unsigned, signed, text, bytes, place, list, object, Parts, no_parts, part, count_parts}
+use Rattle.caf_types.specs.ShapeTree.{ShapeTree, unit, flag, unsigned, signed, text, bytes, place, list, object, Parts, no_parts, part, count_parts}
 use Rattle.caf_types.specs.Table.{Table, Named, shape_at, shape_in, type_at, type_in, numbered, or_else, with_block}
 use Rattle.caf_types.specs.declared.shape.TypeId.{TypeId}
 use Rattle.caf_words.specs.Datum.{Datum, a_text, some_bytes, a_list, an_object, an_unsigned, a_signed, Data, no_data, more, fits, is_none, are_in_range}
@@ -17,12 +17,12 @@ use Rattle.caf_words.proofs.PackingLemmas.{AreWords}
 use Rattle.caf_words.proofs.RangeLemmas.{is_spelled, is_kept, none_spelled, first_spelled, first_kept, AreKept, AllKeep}
 use Rattle.caf_words.proofs.SpellingLemmas.{Takes, is_sound, is_read, more_sound, more_again, bind_ok, ok_is, pair_is, got}
 
-pub several_sound : (fs : List Form) (ws : List ℕ) (ds : Data) (rest : List ℕ) → AreWords ws → several fs ws ≡ Ok (ds, rest) → Takes (SeveralSpell fs) ws ds rest
+pub several_sound : (fs : List ShapeTree) (ws : List ℕ) (ds : Data) (rest : List ℕ) → AreWords ws → several fs ws ≡ Ok (ds, rest) → Takes (SeveralSpell fs) ws ds rest
 several_sound [] ws ds rest h e = subst (λ (x : Data × List ℕ). Takes (SeveralSpell []) ws x.0 x.1) (ok_is (no_data, ws) (ds, rest) e) (record { front = []; spells = (refl, refl); parts = refl; rest_words = h })
 several_sound (f ∷ fs) ws ds rest h e =
     more_sound (Spells f) (SeveralSpell fs) (SeveralSpell (f ∷ fs)) (reading f) (several fs) (is_sound f) (several_sound fs) (λ d ds a b p q. (d, ds, refl, a, b, p, q, refl)) ws ds rest h e
 
-pub several_again : (fs : List Form) (ds : Data) (front rest : List ℕ) → SeveralSpell fs ds front → several fs (front ++ rest) ≡ Ok (ds, rest)
+pub several_again : (fs : List ShapeTree) (ds : Data) (front rest : List ℕ) → SeveralSpell fs ds front → several fs (front ++ rest) ≡ Ok (ds, rest)
 several_again [] ds front rest s = rw (s.0, s.1) refl
 several_again (f ∷ fs) ds front rest s =
     subst (λ (x : Data × List ℕ). several (f ∷ fs) (x.1 ++ rest) ≡ Ok (x.0, rest)) (pair_is s.2 s.7)
@@ -37,7 +37,7 @@ ended_ok : (ds : Data) (rest : List ℕ) (es : Data) → ended ds rest ≡ Ok es
 ended_ok ds [] es e = (ok_is ds es e, refl)
 ended_ok ds (w ∷ ws) es e = absurd cc
 
-shapes_sound : (o : Option (List Form)) (ws : List ℕ) (ds : Data) → AreWords ws → (shapes_reading o ws >>= λ x. ended x.0 x.1) ≡ Ok ds → ShapesSpell o ds ws
+shapes_sound : (o : Option (List ShapeTree)) (ws : List ℕ) (ds : Data) → AreWords ws → (shapes_reading o ws >>= λ x. ended x.0 x.1) ≡ Ok ds → ShapesSpell o ds ws
 shapes_sound None ws ds h e = absurd cc
 shapes_sound (Some fs) ws ds h e =
     let b = bind_ok (several fs ws) (λ x. ended x.0 x.1) ds e in
@@ -49,7 +49,7 @@ shapes_sound (Some fs) ws ds h e =
 pub whole_sound : (t : Table) (ids ws : List ℕ) (ds : Data) → AreWords ws → whole_reading t ids ws ≡ Ok ds → TypesSpell t ids ds ws
 whole_sound t ids ws ds h e = shapes_sound (shapes_at t ids) ws ds h e
 
-shapes_again : (o : Option (List Form)) (ws : List ℕ) (ds : Data) → ShapesSpell o ds ws → (shapes_reading o ws >>= λ x. ended x.0 x.1) ≡ Ok ds
+shapes_again : (o : Option (List ShapeTree)) (ws : List ℕ) (ds : Data) → ShapesSpell o ds ws → (shapes_reading o ws >>= λ x. ended x.0 x.1) ≡ Ok ds
 shapes_again None ws ds s = absurd s
 shapes_again (Some fs) ws ds s =
     let e : several fs ws ≡ Ok (ds, []) = subst (λ vs. several fs vs ≡ Ok (ds, [])) (append-nil ws) (several_again fs ds ws [] s) in
@@ -151,7 +151,7 @@ object_bound n fields h ws =
     bind_bound (first_of ws) (λ x. fields_after (eqb x.0 n) fields ws x.1) (length ws) (first_bound ws) (λ x le. after_bound (eqb x.0 n) fields h ws x.1 le)
 
 mutual
-  pub is_bound : (f : Form) → IsBound (reading f)
+  pub is_bound : (f : ShapeTree) → IsBound (reading f)
   is_bound unit = word_bound unit_in
   is_bound flag = word_bound flag_in
   is_bound unsigned = word_bound (λ w. Some (an_unsigned w))
@@ -166,7 +166,7 @@ mutual
   parts_bound no_parts = λ ws. omega arith
   parts_bound (part n f ps) = more_bound (reading f) (each_reading ps) (is_bound f) (parts_bound ps)
 
-several_bound : (fs : List Form) → IsBound (several fs)
+several_bound : (fs : List ShapeTree) → IsBound (several fs)
 several_bound [] = λ ws. omega arith
 several_bound (f ∷ fs) = more_bound (reading f) (several fs) (is_bound f) (several_bound fs)
 
@@ -178,7 +178,7 @@ ended_bound (Ok x) m le n e = rest_bound x.0 x.1 m le n e
     rest_bound ds [] m le n e = absurd cc
     rest_bound ds (w ∷ ws) m le n e = let same : length (w ∷ ws) ≡ n = cc in omega (arith, same, le)
 
-shapes_bound : (o : Option (List Form)) (ws : List ℕ) → left (shapes_reading o ws) ≤ length ws
+shapes_bound : (o : Option (List ShapeTree)) (ws : List ℕ) → left (shapes_reading o ws) ≤ length ws
 shapes_bound None ws = omega arith
 shapes_bound (Some fs) ws = several_bound fs ws
 
@@ -187,19 +187,19 @@ whole_bound t ids ws n e = ended_bound (shapes_reading (shapes_at t ids) ws) (le
 
 -- ---- the walk over types
 
-pub record Step (o : Option Form) (os : Option (List Form)) (ws : List ℕ) : Type 0 where
-  pub shape : Form
+pub record Step (o : Option ShapeTree) (os : Option (List ShapeTree)) (ws : List ℕ) : Type 0 where
+  pub shape : ShapeTree
   pub here : o ≡ Some shape
   pub others : is_some os ≡ true
   pub reads : shapes_reading (joined o os) ws ≡ then_more (reading shape ws) (shapes_reading os)
 
-pub shapes_step : (o : Option Form) (os : Option (List Form)) (ws : List ℕ) → is_some (joined o os) ≡ true → Step o os ws
+pub shapes_step : (o : Option ShapeTree) (os : Option (List ShapeTree)) (ws : List ℕ) → is_some (joined o os) ≡ true → Step o os ws
 shapes_step None os ws h = absurd cc
 shapes_step (Some f) None ws h = absurd cc
 shapes_step (Some f) (Some fs) ws h = record { shape = f; here = refl; others = refl; reads = refl }
 
 pub record TypeStep (t : Table) (ids : List TypeId) (i : ℕ) (d : TypeId) (ws : List ℕ) : Type 0 where
-  pub shape : Form
+  pub shape : ShapeTree
   pub here : shape_at t (get_or ids i d).0 ≡ Some shape
   pub others : is_some (shapes_at t (ids_of (drop (i + 1) ids))) ≡ true
   pub reads : shapes_reading (shapes_at t (ids_of (drop i ids))) ws ≡ then_more (reading shape ws) (shapes_reading (shapes_at t (ids_of (drop (i + 1) ids))))
@@ -212,27 +212,27 @@ type_step t ids i d ws lt h =
 
 -- ---- what fits several shapes is spelled, and nothing else
 
-pub several_spelled : (fs : List Form) (ds : Data) → several_fit fs ds ≡ true → are_in_range ds ≡ true → SeveralSpell fs ds (spellings ds)
+pub several_spelled : (fs : List ShapeTree) (ds : Data) → several_fit fs ds ≡ true → are_in_range ds ≡ true → SeveralSpell fs ds (spellings ds)
 several_spelled [] = λ ds e r. none_spelled ds e
 several_spelled (f ∷ fs) = first_spelled (fits f) (several_fit fs) (Spells f) (SeveralSpell fs) (is_spelled f) (several_spelled fs)
 
-pub several_kept : (fs : List Form) → AreKept (several_fit fs) (SeveralSpell fs)
+pub several_kept : (fs : List ShapeTree) → AreKept (several_fit fs) (SeveralSpell fs)
 several_kept [] = λ ds ws s. subst (λ xs. AllKeep is_none xs ws) (sym s.0) (record { fits = refl; range = refl; words = s.1 })
 several_kept (f ∷ fs) = first_kept (fits f) (several_fit fs) (Spells f) (SeveralSpell fs) (is_kept f) (several_kept fs)
 
 -- ---- types stay
 
-joined_both : (o : Option Form) (os : Option (List Form)) (fs : List Form) → joined o os ≡ Some fs → (f : Form) × (gs : List Form) × (o ≡ Some f) × (os ≡ Some gs) × (joined (Some f) (Some gs) ≡ Some fs)
+joined_both : (o : Option ShapeTree) (os : Option (List ShapeTree)) (fs : List ShapeTree) → joined o os ≡ Some fs → (f : ShapeTree) × (gs : List ShapeTree) × (o ≡ Some f) × (os ≡ Some gs) × (joined (Some f) (Some gs) ≡ Some fs)
 joined_both None os fs e = absurd cc
 joined_both (Some f) None fs e = absurd cc
 joined_both (Some f) (Some gs) fs e = (f, gs, refl, refl, e)
 
-shape_stays : (t : Table) (first : ℕ) (ns : List Named) (id : ℕ) (f : Form) → shape_at t id ≡ Some f → option_map (λ (n : Named). n.shape) (type_at (t.types ++ numbered first ns) id) ≡ Some f
+shape_stays : (t : Table) (first : ℕ) (ns : List Named) (id : ℕ) (f : ShapeTree) → shape_at t id ≡ Some f → option_map (λ (n : Named). n.shape) (type_at (t.types ++ numbered first ns) id) ≡ Some f
 shape_stays t first ns id f e =
     ap (option_map (λ (n : Named). n.shape)) (type_joins t.types first id ns) ∙ map_or_else (λ (n : Named). n.shape) (type_at t.types id) (type_in first ns id)
-    ∙ ap (λ (o : Option Form). or_else o (shape_in first ns id)) e
+    ∙ ap (λ (o : Option ShapeTree). or_else o (shape_in first ns id)) e
 
-pub types_stay : (t : Table) (block : List ℕ) (first : ℕ) (ns : List Named) (ids : List ℕ) (fs : List Form) → shapes_at t ids ≡ Some fs → shapes_at (with_block t block first ns) ids ≡ Some fs
+pub types_stay : (t : Table) (block : List ℕ) (first : ℕ) (ns : List Named) (ids : List ℕ) (fs : List ShapeTree) → shapes_at t ids ≡ Some fs → shapes_at (with_block t block first ns) ids ≡ Some fs
 types_stay t block first ns [] fs e = e
 types_stay t block first ns (id ∷ ids) fs e =
     let p = joined_both (shape_at t id) (shapes_at t ids) fs e in

@@ -8,7 +8,7 @@ use Rattle.std.specs.Str.{is_utf8}
 use Rattle.std.proofs.lemmas.Bool.{ltb-true, lt-ltb}
 use Rattle.std.proofs.lemmas.Str.{IsUtf8-from_is_utf8, is_utf8-from_IsUtf8}
 use Rattle.std.proofs.lemmas.List.{append_cancel_right}
-use Rattle.caf_types.specs.Form.{Form, unit, flag, unsigned, signed, text, bytes, place, list, object, Parts, no_parts, part, count_parts}
+use Rattle.caf_types.specs.ShapeTree.{ShapeTree, unit, flag, unsigned, signed, text, bytes, place, list, object, Parts, no_parts, part, count_parts}
 use Rattle.caf_words.specs.Datum.{Datum, a_unit, a_flag, an_unsigned, a_signed, a_text, some_bytes, a_place, a_list, an_object, Data, no_data, more, count}
 use Rattle.caf_words.specs.Spelling.{words_for, packed, packed_in, bit, AreBytes, Spells, EachSpells, PartsSpell}
 use Rattle.caf_words.specs.Reading.{Got, ◌>>=◌, first_of, taken, one_word, unit_in, flag_in, place_in, bytes_at, unpacked, text_at, some_bytes_at, then_more, many, list_at, fields_after, object_at, reading, each_reading}
@@ -236,7 +236,7 @@ pub pair_is : {x y : Data} {a b : List ℕ} → x ≡ y → a ≡ b → pair y b
 pair_is p q = cc
 
 mutual
-  pub is_sound : (f : Form) → Sound (Spells f) (reading f)
+  pub is_sound : (f : ShapeTree) → Sound (Spells f) (reading f)
   is_sound unit = word_sound (Spells unit) unit_in (λ w d lt e. let p = unit_one w d e in (p.0, ap (λ v. v ∷ []) p.1))
   is_sound flag = word_sound (Spells flag) flag_in (λ w d lt e. let p = flag_one w d e in (p.0, p.1, ap (λ v. v ∷ []) p.2))
   is_sound unsigned = word_sound (Spells unsigned) (λ w. Some (an_unsigned w)) (λ w d lt e. (w, lt, cc, refl))
@@ -252,7 +252,7 @@ mutual
   parts_sound (part n f ps) = more_sound (Spells f) (PartsSpell ps) (PartsSpell (part n f ps)) (reading f) (each_reading ps) (is_sound f) (parts_sound ps) (λ d ds a b p q. (d, ds, refl, a, b, p, q, refl))
 
 mutual
-  pub is_read : (f : Form) → Again (Spells f) (reading f)
+  pub is_read : (f : ShapeTree) → Again (Spells f) (reading f)
   is_read unit d front rest s = rw (s.0, s.1) refl
   is_read flag d front rest s = rw (s.1, s.2) (flag_again s.0 rest)
   is_read unsigned d front rest s = rw (s.2, s.3) refl
@@ -275,7 +275,7 @@ cancel : (a b : List ℕ) (rest : List ℕ) → a ++ rest ≡ b ++ rest → a �
 cancel a b rest e = append_cancel_right a b rest e
 
 -- no spelling of a shape begins another: the two are equal, and so are the values
-pub one_spelling : (f : Form) (d e : Datum) (a b x y : List ℕ) → Spells f d a → Spells f e b → a ++ x ≡ b ++ y → (d ≡ e) × (x ≡ y) × (a ≡ b)
+pub one_spelling : (f : ShapeTree) (d e : Datum) (a b x y : List ℕ) → Spells f d a → Spells f e b → a ++ x ≡ b ++ y → (d ≡ e) × (x ≡ y) × (a ≡ b)
 one_spelling f d e a b x y s t same =
     let p : got d x ≡ got e y = sym (is_read f d a x s) ∙ ap (reading f) same ∙ is_read f e b y t in
     let q = ok_is (d, x) (e, y) p in

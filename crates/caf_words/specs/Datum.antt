@@ -2,7 +2,7 @@
 use Rattle.std.specs.Prelude.{ℕ, ◌+◌, ◌^◌, ◌&&◌, nat_lt, Bool, true, false, ℤ, pos, negsuc, List, [], ◌∷◌, length}
 use Rattle.std.specs.List.{list_all}
 use Rattle.std.specs.Str.{is_utf8}
-use Rattle.caf_types.specs.Form.{Form, unit, flag, unsigned, signed, text, bytes, place, list, object, Parts, no_parts, part}
+use Rattle.caf_types.specs.ShapeTree.{ShapeTree, unit, flag, unsigned, signed, text, bytes, place, list, object, Parts, no_parts, part}
 
 mutual
   pub data Datum : Type 0 where
@@ -84,7 +84,7 @@ on_first first others no_data = false
 on_first first others (more d ds) = first d && others ds
 
 abbrev mutual
-  pub fits : Form → Datum → Bool
+  pub fits : ShapeTree → Datum → Bool
   fits unit = is_unit
   fits flag = is_flag
   fits unsigned = is_unsigned

@@ -2,7 +2,7 @@
 use Rattle.std.specs.Prelude.{ℕ, zero, suc, ◌+◌, ◌-◌, ◌==◌, nat_lt, if◌then◌else◌, Bool, true, false, List, [], ◌∷◌, length, take, drop, flat_map, Option, Some, None, Result, Ok, Err}
 use Rattle.std.specs.Int.{w64, to_le_bytes, cast_signed}
 use Rattle.std.specs.Str.{is_utf8}
-use Rattle.caf_types.specs.Form.{Form, unit, flag, unsigned, signed, text, bytes, place, list, object, Parts, no_parts, part, count_parts}
+use Rattle.caf_types.specs.ShapeTree.{ShapeTree, unit, flag, unsigned, signed, text, bytes, place, list, object, Parts, no_parts, part, count_parts}
 use Rattle.caf_words.specs.Datum.{Datum, a_unit, a_flag, an_unsigned, a_signed, a_text, some_bytes, a_place, a_list, an_object, Data, no_data, more}
 use Rattle.caf_words.specs.Spelling.{words_for}
 
@@ -90,7 +90,7 @@ abbrev pub object_at : ℕ → (List ℕ → Got Data) → List ℕ → Got Datu
 object_at n fields ws = first_of ws >>= λ x. fields_after (x.0 == n) fields ws x.1
 
 abbrev mutual
-  pub reading : Form → List ℕ → Got Datum
+  pub reading : ShapeTree → List ℕ → Got Datum
   reading unit = one_word unit_in
   reading flag = one_word flag_in
   reading unsigned = one_word (λ w. Some (an_unsigned w))

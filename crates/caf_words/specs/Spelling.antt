@@ -3,7 +3,7 @@ use Rattle.std.specs.Prelude.{◌≡◌, ℕ, zero, suc, ◌+◌, ◌/◌, ◌^�
 use Rattle.std.specs.Int.{w64, from_le_bytes, cast_unsigned}
 use Rattle.std.specs.Int.RustNames.{FitsSigned}
 use Rattle.std.specs.Str.{IsUtf8}
-use Rattle.caf_types.specs.Form.{Form, unit, flag, unsigned, signed, text, bytes, place, list, object, Parts, no_parts, part}
+use Rattle.caf_types.specs.ShapeTree.{ShapeTree, unit, flag, unsigned, signed, text, bytes, place, list, object, Parts, no_parts, part}
 use Rattle.caf_words.specs.Datum.{Datum, a_unit, a_flag, an_unsigned, a_signed, a_text, some_bytes, a_place, a_list, an_object, Data, no_data, more, count}
 
 -- how many words hold n bytes
@@ -52,7 +52,7 @@ EachSpells S (more d ds) ws = (a : List ℕ) × (b : List ℕ) × S d a × EachS
 
 -- the value is of the shape, and the words are its spelling: one case for each shape
 abbrev mutual
-  pub Spells : Form → Datum → List ℕ → Type 0
+  pub Spells : ShapeTree → Datum → List ℕ → Type 0
   Spells unit d ws = (d ≡ a_unit) × (ws ≡ 0 ∷ [])
   Spells flag d ws = (b : Bool) × (d ≡ a_flag b) × (ws ≡ bit b ∷ [])
   Spells unsigned d ws = (n : ℕ) × (n < 2 ^ 64) × (d ≡ an_unsigned n) × (ws ≡ n ∷ [])

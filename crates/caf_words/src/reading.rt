@@ -1,6 +1,6 @@
 ghost use Rattle.std.specs.Prelude.{◌≡◌, ◌+◌, ◌≤◌, Some, is_some, map, IsTrue, IfOk, IfErr};
-ghost use Rattle.caf_types.specs.Form.{Form, count_parts};
-ghost use Rattle.caf_types.specs.Shape.{form, parts};
+ghost use Rattle.caf_types.specs.ShapeTree.{ShapeTree, count_parts};
+ghost use Rattle.caf_types.specs.Shape.{tree, parts};
 ghost use Rattle.caf_types.specs.Table.{shape_at};
 ghost use Rattle.caf_types.specs.TypeTable.{seen};
 ghost use Rattle.caf_words.specs.Datum.{data_of, an_object};
@@ -32,7 +32,7 @@ pub(crate) fn value_at<'a>(
     shape: &Shape,
     words: &'a [u64],
 ) -> Result<(Value, &'a [u64]), Stop>
-    ensures { Gives (λ x. (datum x.0, x.1.now)) result (reading (form shape.now) words.now) }
+    ensures { Gives (λ x. (datum x.0, x.1.now)) result (reading (tree shape.now) words.now) }
 {
     match shape {
         Shape::Unit => {
@@ -91,7 +91,7 @@ fn items_at<'a>(
     count: u64,
     words: &'a [u64],
 ) -> Result<(Vec<Value>, &'a [u64]), Stop>
-    ensures { Gives (λ x. (data_of (map datum x.0.items), x.1.now)) result (many (reading (form shape.now)) count words.now) }
+    ensures { Gives (λ x. (data_of (map datum x.0.items), x.1.now)) result (many (reading (tree shape.now)) count words.now) }
 {
     let mut items = Vec::new(alloc);
     let mut rest = words;
@@ -207,7 +207,7 @@ fn typed_value_at<'a>(
     words: &'a [u64],
 ) -> Result<(Value, &'a [u64]), Stop>
     requires { IsTrue (is_some (shape_at (seen table.now) id.0)) }
-    ensures { (f : Form) → shape_at (seen table.now) id.0 ≡ Some f → Gives (λ x. (datum x.0, x.1.now)) result (reading f words.now) }
+    ensures { (f : ShapeTree) → shape_at (seen table.now) id.0 ≡ Some f → Gives (λ x. (datum x.0, x.1.now)) result (reading f words.now) }
 {
     match table.shape(id) {
         Some(shape) => value_at(alloc, shape, words),

@@ -1,5 +1,5 @@
 ghost use Rattle.std.specs.Prelude.{◌≡◌, ℕ, List, length, map, true, IsTrue, IfOk};
-ghost use Rattle.caf_types.specs.Form.{Form};
+ghost use Rattle.caf_types.specs.ShapeTree.{ShapeTree};
 ghost use Rattle.caf_words.specs.Datum.{Data, data_of};
 ghost use Rattle.caf_words.specs.Several.{ids_of, several_fit};
 ghost use Rattle.caf_words.specs.Value.{datum};
@@ -13,7 +13,7 @@ use std::alloc::Global;
 pub trait Row: Sized {
     ghost ids: { List ℕ };
 
-    ghost shapes: { List Form };
+    ghost shapes: { List ShapeTree };
 
     ghost means: { Self → Data };
 

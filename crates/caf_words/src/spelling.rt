@@ -1,7 +1,7 @@
 ghost use Rattle.std.specs.Prelude.{◌≡◌, ◌++◌, ◌∷◌, ◌<◌, ◌^◌, [], ◌&&◌, true, map, length, slice_index, OnOk, IfOk};
 ghost use Rattle.std.specs.Int.{w64, from_le_bytes, cast_unsigned};
 ghost use Rattle.std.specs.Str.{is_utf8};
-ghost use Rattle.caf_types.specs.Form.{Form};
+ghost use Rattle.caf_types.specs.ShapeTree.{ShapeTree};
 ghost use Rattle.caf_words.specs.Datum.{data_of, count, fits, is_i64, are_bytes, is_counted, is_in_range, are_in_range};
 ghost use Rattle.caf_words.specs.Value.{datum};
 ghost use Rattle.caf_words.specs.Spelling.{spelling, spellings, packed, Spells};
@@ -121,7 +121,7 @@ fn push_values(words: &mut Vec<u64>, values: &[Value]) -> Result<(), Memory>
 /// gives it back from.
 pub fn spell(alloc: Global, value: &Value) -> Result<Words, Memory>
     ensures spelled { IfOk result (λ words. words ≡ spelling (datum value.now)) }
-    ensures spells { IfOk result (λ words. (f : Form) → fits f (datum value.now) ≡ true → Spells f (datum value.now) words) }
+    ensures spells { IfOk result (λ words. (f : ShapeTree) → fits f (datum value.now) ≡ true → Spells f (datum value.now) words) }
 {
     let mut words = Vec::new(alloc);
     push_value(&mut words, value)?;

@@ -1,5 +1,5 @@
 ghost use Rattle.std.specs.Prelude.{◌≡◌, [], ◌∷◌, refl, IfOk};
-ghost use Rattle.caf_types.specs.Form.{unit};
+ghost use Rattle.caf_types.specs.ShapeTree.{unit};
 ghost use Rattle.caf_words.specs.Datum.{a_unit, no_data, more};
 
 use crate::{Row, SpellFault, Value, fits, read, spell};

@@ -1,5 +1,5 @@
 ghost use Rattle.std.specs.Prelude.{◌≡◌, map};
-ghost use Rattle.caf_types.specs.Shape.{form, parts};
+ghost use Rattle.caf_types.specs.Shape.{tree, parts};
 ghost use Rattle.caf_words.specs.Datum as of;
 ghost use Rattle.caf_words.specs.Datum.{data_of};
 ghost use Rattle.caf_words.specs.Value.{datum};
@@ -24,7 +24,7 @@ pub enum Value {
 /// Whether the value is of the shape. It takes no memory.
 #[cycle(fits)]
 pub fn fits(value: &Value, shape: &Shape) -> bool
-    ensures { result ≡ of.fits (form shape.now) (datum value.now) }
+    ensures { result ≡ of.fits (tree shape.now) (datum value.now) }
 {
     match (value, shape) {
         (Value::Unit, Shape::Unit)
@@ -44,7 +44,7 @@ pub fn fits(value: &Value, shape: &Shape) -> bool
 
 #[cycle(fits)]
 fn all_fit(items: &[Value], shape: &Shape) -> bool
-    ensures { result ≡ of.all_fit (of.fits (form shape.now)) (data_of (map datum items.now)) }
+    ensures { result ≡ of.all_fit (of.fits (tree shape.now)) (data_of (map datum items.now)) }
 {
     for item in items {
         if !fits(item, shape) {

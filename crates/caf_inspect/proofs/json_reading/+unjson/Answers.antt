@@ -1,6 +1,6 @@
 use Rattle.std.proofs.Common.{◌≡◌, ◌+◌, map, drop, sym, ap, Some, subst}
 use Rattle.std.proofs.lemmas.List.{map_push}
-use Rattle.caf_types.specs.Shape.{form, parts}
+use Rattle.caf_types.specs.Shape.{tree, parts}
 use Rattle.caf_words.specs.Value.{datum}
 use Rattle.serde_json.specs.View.{view, items_view}
 use Rattle.serde_json.specs.Find.{get}
@@ -11,7 +11,7 @@ use Rattle.caf_inspect.proofs.json_reading.+unjson.Goals as goal
 pub items_of-loop-i-preserved : goal.items_of-loop-i-preserved
 items_of-loop-i-preserved t c =
     let item = c.index-items-i.result in
-    let one = unjson (form c.args.shape.now) in
+    let one = unjson (tree c.args.shape.now) in
     rw (c.in_ok-push-in-Ok.ensures.items, map_push datum c.loop-i.values.items c.in-Ok.value)
     (goes_on (map datum c.loop-i.values.items) (inside c.loop-i.i (one (view item))) (each_read one (c.loop-i.i + 1) (items_view (drop (c.loop-i.i + 1) c.args.items.now))) (datum c.in-Ok.value) _
     (ap (inside c.loop-i.i) c.in-Ok.ensures)
@@ -20,7 +20,7 @@ items_of-loop-i-preserved t c =
 pub fields_of-loop-i-preserved : goal.fields_of-loop-i-preserved
 fields_of-loop-i-preserved t c =
     let f = c.index-fields-i.result in
-    let one = unjson (form f.shape) in
+    let one = unjson (tree f.shape) in
     let name : c.as_str.result.now ≡ f.name = c.as_str.ensures.text in
     let found : get f.name (view c.args.json.now) ≡ Some (view c.in-Some.member.now) =
     subst (λ n. get n (view c.args.json.now) ≡ Some (view c.in-Some.member.now)) name (sym c.in-Some.ensures) in

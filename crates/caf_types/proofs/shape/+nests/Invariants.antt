@@ -1,5 +1,5 @@
 use Rattle.std.proofs.Common.{◌≡◌, drop, ltb}
-use Rattle.caf_types.specs.Form.{parts_depth}
+use Rattle.caf_types.specs.ShapeTree.{parts_depth}
 use Rattle.caf_types.specs.Shape.{parts}
 use Rattle.caf_types.proofs.shape.+nests.Given as goal
 

@@ -1,0 +1,13 @@
+//! The numbers that several layers cite.
+
+/// How many places a run has at most, the conductor's included: places are numbered below it.
+pub const PLACES: u32 = 256;
+
+/// The sender number of the outside, which is no place's.
+pub const OUTSIDE: u32 = PLACES;
+
+/// The latest stamp: a batch is taken only while all stamps are below it.
+pub const LATEST_STAMP: u64 = 1 << 40;
+
+/// The last number of a request, and the last count of ticks.
+pub const LAST_COUNT: u64 = 1 << 63;
