@@ -1,6 +1,8 @@
 pub mod ShapeTree
+pub mod Listing
 pub mod Name
 pub mod NameAnswer
+pub mod New
 pub mod Reason
 pub mod Sec
 pub mod Shape

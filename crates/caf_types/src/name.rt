@@ -5,7 +5,7 @@ ghost use Rattle.caf_types.specs.Name.{is_name};
 ghost use Rattle.caf_types.specs.NameAnswer.{NameAnswer};
 ghost use Rattle.caf_types.specs.declared.name.NameFault.TheVariants as faults;
 
-use crate::{Letters, Memory};
+use crate::{LONGEST_NAME, Letters, Memory};
 use std::alloc::Global;
 use std::marker::Model;
 use thiserror::Error;
@@ -16,6 +16,7 @@ pub enum NameFault {
     /// The text isn't 1 to 64 bytes of `a` to `z`, `0` to `9` and `_`.
     #[error("not a name")]
     Form,
+    /// Want of memory.
     #[error("out of memory")]
     Memory,
 }
@@ -81,7 +82,7 @@ fn is_name_text(text: &str) -> bool
     ensures { result ≡ is_name text.now }
 {
     let length = text.len();
-    if length < 1 || length > 64 {
+    if length < 1 || length > LONGEST_NAME {
         return false;
     }
     are_name_bytes(text.as_bytes())

@@ -6,7 +6,8 @@ use crate::{Memory, Name};
 use sqlite_items::{Boxed, Items};
 use std::alloc::Global;
 
-/// The number of a type. IDs 0 to 9 are built in, and blocks have IDs from 200 to 65,534.
+/// The number of a type. IDs 0 to 9 are built in, and blocks have IDs from
+/// [`FIRST_ID`](crate::FIRST_ID) to [`LAST_ID`](crate::LAST_ID).
 #[derive(Clone, Copy, Debug, PartialEq, Eq, Drop)]
 pub struct TypeId(pub u16);
 
@@ -14,15 +15,19 @@ pub struct TypeId(pub u16);
 #[derive(Debug, Drop)]
 #[cycle(shape)]
 pub enum Shape {
+    /// The one value without content.
     Unit,
+    /// False or true.
     Flag,
     /// A whole number of 64 bits.
     Unsigned,
     /// A whole number of 64 bits in two's complement.
     Signed,
+    /// A text in UTF-8.
     Text,
+    /// Any bytes.
     Bytes,
-    /// The number of a place, below 256.
+    /// The number of a place, below [`PLACES`](crate::PLACES).
     Place,
     /// Any number of values of one shape.
     List(Boxed<Shape>),
@@ -34,14 +39,18 @@ pub enum Shape {
 #[derive(Debug, Drop)]
 #[cycle(shape)]
 pub struct Field {
+    /// The field's name.
     pub name: Name,
+    /// The shape of the field's values.
     pub shape: Shape,
 }
 
 /// A type that a block declares.
 #[derive(Debug, Drop)]
 pub struct Entry {
+    /// The type's name.
     pub name: Name,
+    /// The shape of the type's values.
     pub shape: Shape,
 }
 
