@@ -1,5 +1,5 @@
 -- What maps that file a table's types find: exactly what the list of types tells.
-use Rattle.std.proofs.Common.{◌≡◌, ◌≢◌, ℕ, zero, suc, ◌+◌, ◌<◌, ◌≤◌, eqb, cond, Bool, true, false, List, [], ◌∷◌, ◌++◌, length, take, drop, get_or, Option, Some, None, refl, sym, ap, subst, ◌∙◌, zero-add, append_assoc, length-append, arith}
+use Rattle.std.proofs.Common.{◌≡◌, ◌≢◌, ℕ, zero, suc, ◌+◌, ◌<◌, eqb, cond, Bool, true, false, List, [], ◌∷◌, ◌++◌, length, take, drop, get_or, Option, Some, None, refl, sym, ap, subst, ◌∙◌, zero-add, append_assoc, length-append, arith}
 use Rattle.std.specs.Prelude.{slice_get, bytes_eq, is_some, find}
 use Rattle.std.specs.Option.{option_map}
 use Rattle.std.proofs.lemmas.Bool.{cond-true, cond-false, false_from_ne_true, eqb-true, eq-eqb, ne_eqb}
@@ -220,9 +220,9 @@ one_filed ls us i x ids ids' names names' lt is filed new other_ids other_names 
     let next = subst (λ vs. AreNew ts vs) (drop_step us i x lt is) new in
     let still = still_filed (types_of ls) us i x ids ids' names names' lt is filed new other_ids other_names in
     let long : 0 + length ts ≡ length ls + i =
-        zero-add (length ts) ∙ length-append (types_of ls) (types_of (take i us)) ∙ ap (λ n. n + length (types_of (take i us))) (length-map ls type_of)
-        ∙ ap (λ n. length ls + n) (length-map (take i us) type_of ∙ length-take-le i us (omega (arith, lt))) in
+    zero-add (length ts) ∙ length-append (types_of ls) (types_of (take i us)) ∙ ap (λ n. n + length (types_of (take i us))) (length-map ls type_of)
+    ∙ ap (λ n. length ls + n) (length-map (take i us) type_of ∙ length-take-le i us (omega (arith, lt))) in
     let more = filed_more 0 (length ls + i) ts (type_of x) ids' names' still long by_id by_name in
     let joined : ts ++ type_of x ∷ [] ≡ types_of ls ++ types_of (take (i + 1) us) =
-        append_assoc (types_of ls) (types_of (take i us)) (type_of x ∷ []) ∙ ap (λ vs. types_of ls ++ vs) (sym (take_step us i x lt is)) in
+    append_assoc (types_of ls) (types_of (take i us)) (type_of x ∷ []) ∙ ap (λ vs. types_of ls ++ vs) (sym (take_step us i x lt is)) in
     (subst (λ vs. AreFiled 0 vs ids' names') joined more, subst (λ vs. AreNew vs (types_of (drop (i + 1) us))) joined next.2)

@@ -1,11 +1,11 @@
 -- A block that isn't refused has new IDs and names alone.
-use Rattle.std.proofs.Common.{◌≡◌, ◌≢◌, ℕ, zero, suc, ◌+◌, ◌<◌, ◌≤◌, eqb, ltb, cond, Bool, true, false, List, [], ◌∷◌, ◌++◌, Option, Some, None, refl, sym, ap, subst, ◌∙◌, arith}
-use Rattle.std.specs.Prelude.{bytes_eq, is_some, find, count_by, ◌||◌}
+use Rattle.std.proofs.Common.{◌≡◌, ℕ, ◌+◌, ◌<◌, ◌≤◌, eqb, cond, Bool, true, false, List, [], ◌∷◌, ◌++◌, Option, Some, None, refl, sym, ap, ◌∙◌, arith}
+use Rattle.std.specs.Prelude.{bytes_eq, is_some, find, ◌||◌}
 use Rattle.std.specs.Option.{option_map}
 use Rattle.std.proofs.lemmas.Bool.{ne_eqb, ltb-false}
 use Rattle.std.proofs.lemmas.Slice.Eq.{bytes_eq-Decides}
 use Rattle.std.proofs.lemmas.List.Sums.{sum_by-cons}
-use Rattle.caf_types.specs.Table.{Named, type_at, id_of, has_id, has_name, first_taken, first_name, clashes, count_named, numbered, or_else}
+use Rattle.caf_types.specs.Table.{Named, type_at, id_of, has_id, has_name, first_taken, first_name, clashes, count_named, numbered}
 use Rattle.caf_types.specs.New.{AreNew}
 use Rattle.caf_types.proofs.TableLemmas.{type_at-append, id_of-append}
 

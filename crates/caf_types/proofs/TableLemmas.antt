@@ -6,7 +6,7 @@ use Rattle.std.specs.Option.{option_map, option_copied}
 use Rattle.std.specs.Borrow.{Bor}
 use Rattle.std.proofs.lemmas.List.{drop_more, map-append, length-map}
 use Rattle.std.proofs.lemmas.Bool.{ne_eqb, eq-eqb, ltb-true, ltb-false}
-use Rattle.std.proofs.lemmas.Option.{slice_get-map, slice_get_read}
+use Rattle.std.proofs.lemmas.Option.{slice_get_read}
 use Rattle.caf_types.specs.Table.{Named, type_at, id_of, numbered, type_in, find_in, or_else}
 use Rattle.caf_types.specs.Shape.{entry_view, entry_views}
 use Rattle.caf_types.specs.Listing.{type_of, types_of}
@@ -121,7 +121,7 @@ pub listed-more : (ls : List Listed) (first : ℕ) (es : List Entry) (l : Listed
     → types_of (ls ++ l ∷ []) ≡ numbered first (entry_views (es ++ e ∷ []))
 listed-more ls first es l e so_far id is =
     let same : type_of l ≡ (first + length (entry_views es), entry_view e) =
-        ap (λ n. (n, entry_view l.entry)) (id ∙ ap (λ n. first + n) (sym (length-map es entry_view))) ∙ ap (λ x. (first + length (entry_views es), entry_view x)) is in
+    ap (λ n. (n, entry_view l.entry)) (id ∙ ap (λ n. first + n) (sym (length-map es entry_view))) ∙ ap (λ x. (first + length (entry_views es), entry_view x)) is in
     map-append type_of ls (l ∷ []) ∙ ap (λ ts. ts ++ type_of l ∷ []) so_far ∙ ap (λ t. numbered first (entry_views es) ++ t ∷ []) same
     ∙ sym (ap (numbered first) (map-append entry_view es (e ∷ [])) ∙ numbered-more first (entry_views es) (entry_view e))
 

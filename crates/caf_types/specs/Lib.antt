@@ -3,6 +3,7 @@ pub mod Listing
 pub mod Name
 pub mod NameAnswer
 pub mod New
+pub mod Postings
 pub mod Reason
 pub mod Sec
 pub mod Shape

@@ -1,6 +1,6 @@
 -- The program's table as a plain one, and its answer to a new block.
-use Rattle.std.specs.Prelude.{◌≡◌, ℕ, List, map, Option, Some, None, Result, Ok, Err, ⊤}
-use Rattle.caf_types.specs.Listing.{Listing, types_of}
+use Rattle.std.specs.Prelude.{◌≡◌, Option, Some, None, Result, Ok, Err, ⊤}
+use Rattle.caf_types.specs.Listing.{types_of}
 use Rattle.caf_types.specs.Table.{Table, Refusal, out_of_range, taken_id, taken_name, too_deep}
 use Rattle.caf_types.specs.declared.table.TypeTable.{TypeTable}
 use Rattle.caf_types.specs.declared.table_fault.TableFault.{TableFault}

@@ -1,4 +1,4 @@
-ghost use Rattle.std.specs.Prelude.{◌≡◌, IsTrue, IfOk};
+ghost use Rattle.std.specs.Prelude.{◌≡◌, Some, IsTrue, IfOk};
 ghost use Rattle.std.specs.List.{list_all};
 ghost use Rattle.caf_types.specs.Name as names;
 ghost use Rattle.caf_types.specs.Name.{is_name};
@@ -7,6 +7,7 @@ ghost use Rattle.caf_types.specs.declared.name.NameFault.TheVariants as faults;
 
 use crate::{LONGEST_NAME, Letters, Memory};
 use std::alloc::Global;
+use std::fmt;
 use std::marker::Model;
 use thiserror::Error;
 
@@ -75,6 +76,16 @@ impl Name {
         ensures valid { IsTrue (is_name self.now) }
     {
         self.text.as_str()
+    }
+}
+
+/// Writes the text itself.
+impl fmt::Display for Name {
+    ghost output = { λ name. Some name };
+
+    fn fmt<W: fmt::Write>(&self, f: &mut fmt::Formatter<W>) -> fmt::Result {
+        let text = self.as_str();
+        write!(f, "{text}")
     }
 }
 

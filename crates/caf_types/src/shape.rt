@@ -1,15 +1,26 @@
-ghost use Rattle.std.specs.Prelude.{◌≡◌, nat_lt, IfOk};
+ghost use Rattle.std.specs.Prelude.{◌≡◌, nat_lt, IfOk, Some, decimal};
 ghost use Rattle.caf_types.specs.ShapeTree.{list, object, depth, parts_depth};
 ghost use Rattle.caf_types.specs.Shape.{tree, parts};
 
 use crate::{Memory, Name};
 use sqlite_items::{Boxed, Items};
 use std::alloc::Global;
+use std::fmt;
 
 /// The number of a type. IDs 0 to 9 are built in, and blocks have IDs from
 /// [`FIRST_ID`](crate::FIRST_ID) to [`LAST_ID`](crate::LAST_ID).
 #[derive(Clone, Copy, Debug, PartialEq, Eq, Drop)]
 pub struct TypeId(pub u16);
+
+/// Writes the number alone.
+impl fmt::Display for TypeId {
+    ghost output = { λ id. Some (decimal id.0) };
+
+    fn fmt<W: fmt::Write>(&self, f: &mut fmt::Formatter<W>) -> fmt::Result {
+        let TypeId(id) = *self;
+        write!(f, "{id}")
+    }
+}
 
 /// What the values of a type look like.
 #[derive(Debug, Drop)]

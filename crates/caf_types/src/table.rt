@@ -13,7 +13,10 @@ use crate::filing::{PlacesById, PlacesByName, file_types};
 use crate::listed::Listed;
 use crate::names_in_block::{NameCounts, count_names, stands_twice};
 use crate::shape::nests_past;
-use crate::{DEEPEST, Entry, FIRST_ID, LAST_ID, Memory, Name, Seq, Shape, TableFault, TypeId, declare_type, shape_of};
+use crate::{
+    DEEPEST, Entry, FIRST_ID, LAST_ID, Memory, Name, Seq, Shape, TableFault, TypeId, declare_type,
+    shape_of,
+};
 use std::alloc::Global;
 use std::collections::BTreeMap;
 use std::marker::Model;
@@ -78,7 +81,10 @@ impl TypeTable {
         ensures added { OnOk result (seen self.new ≡ with_block (seen self.old) block first (entry_views entries)) }
         ensures kept { OnErr result (self.new ≡ self.old) }
     {
-        if first < FIRST_ID || first > LAST_ID || first as u64 + entries.len() > LAST_ID as u64 + 1 {
+        if first < FIRST_ID
+            || first > LAST_ID
+            || first as u64 + entries.len() > LAST_ID as u64 + 1
+        {
             return Err(TableFault::Range);
         }
         if let Some(id) = self.first_taken(first, entries.as_slice()) {
@@ -136,7 +142,11 @@ impl TypeTable {
     {
         let position = *self.by_id.get(&id)?;
         let listed = listed_at(self.types.as_slice(), position)?;
-        if listed.id == id { Some(&listed.entry) } else { None }
+        if listed.id == id {
+            Some(&listed.entry)
+        } else {
+            None
+        }
     }
 
     fn number_of(&self, name: &str) -> Option<u16>
@@ -145,7 +155,11 @@ impl TypeTable {
     {
         let position = *self.by_name.get(name)?;
         let listed = listed_at(self.types.as_slice(), position)?;
-        if listed.entry.name.as_str() == name { Some(listed.id) } else { None }
+        if listed.entry.name.as_str() == name {
+            Some(listed.id)
+        } else {
+            None
+        }
     }
 
     fn has_id(&self, id: u16) -> bool
@@ -216,7 +230,12 @@ impl TypeTable {
     }
 
     /// Adds a block, of whose IDs and names it is known that they are new.
-    fn add_named_types(&mut self, block: Name, first: u16, entries: Seq<Entry>) -> Result<(), Memory>
+    fn add_named_types(
+        &mut self,
+        block: Name,
+        first: u16,
+        entries: Seq<Entry>,
+    ) -> Result<(), Memory>
         requires within { first + length entries < 2 ^ 16 }
         requires new { AreNew (seen self.old).types (numbered first (entry_views entries)) }
         ensures added { OnOk result (seen self.new ≡ with_block (seen self.old) block first (entry_views entries)) }
@@ -285,7 +304,12 @@ fn built_in_entries(alloc: Global) -> Result<Seq<Entry>, Memory>
     declare_type(alloc, &mut entries, "text", Shape::Text)?;
     declare_type(alloc, &mut entries, "bytes", Shape::Bytes)?;
     declare_type(alloc, &mut entries, "place", Shape::Place)?;
-    declare_type(alloc, &mut entries, "unsigneds", shape_of!(alloc, [Unsigned]))?;
+    declare_type(
+        alloc,
+        &mut entries,
+        "unsigneds",
+        shape_of!(alloc, [Unsigned]),
+    )?;
     declare_type(alloc, &mut entries, "texts", shape_of!(alloc, [Text]))?;
     declare_type(alloc, &mut entries, "places", shape_of!(alloc, [Place]))?;
     Ok(entries)

@@ -8,5 +8,5 @@ use Rattle.caf_types.proofs.filing.file_types.Given as goal
 abbrev pub invariant-loop-i : goal.invariant-loop-i
 invariant-loop-i l = record {
   filed : AreFiled 0 (types_of l.listed ++ types_of (take l.i l.added)) (get nat_cmp l.ids) (get_by_text l.names);
-  new : AreNew (types_of l.listed ++ types_of (take l.i l.added)) (types_of (drop l.i l.added))
+  new : AreNew (types_of l.listed ++ types_of (take l.i l.added)) (types_of (drop l.i l.added));
 }

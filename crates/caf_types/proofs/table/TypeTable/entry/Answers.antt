@@ -1,5 +1,5 @@
-use Rattle.std.proofs.Common.{◌≡◌, ℕ, sym, ap, subst, ◌∙◌, Option, Some, None}
-use Rattle.caf_types.specs.Table.{Named, type_at, id_of}
+use Rattle.std.proofs.Common.{◌≡◌, ℕ, sym, ap, subst, ◌∙◌, Some, None}
+use Rattle.caf_types.specs.Table.{type_at, id_of}
 use Rattle.caf_types.specs.Shape.{entry_view}
 use Rattle.caf_types.specs.Listing.{Listing, types_of}
 use Rattle.caf_types.proofs.FilingLemmas.{type_at-none, type_at-past, type_at-other, type_at-there, id_of-there, listed_there, listed_past}

@@ -1,8 +1,6 @@
-use Rattle.std.proofs.Common.{◌≡◌, ℕ, List, true, false, Bool, ◌∙◌, sym, ap}
-use Rattle.std.specs.Prelude.{nat_lt, unwrap_or, ◌||◌, count_by}
+use Rattle.std.proofs.Common.{◌≡◌, true, false, ◌∙◌, sym, ap}
+use Rattle.std.specs.Prelude.{nat_lt, ◌||◌}
 use Rattle.std.specs.Option.{option_map}
-use Rattle.std.specs.BTreeMap.{get_by_text}
-use Rattle.caf_types.specs.declared.shape.Entry.{Entry}
 use Rattle.caf_types.specs.Table.{Named, has_name, clashes}
 use Rattle.caf_types.specs.Shape.{entry_views}
 use Rattle.caf_types.specs.TypeTable.{seen}
@@ -15,7 +13,7 @@ returns-then-has_clash c =
     let ts = (seen c.args.self.now).types in
     let name : c.as_str-name.result.now ≡ e.name = c.as_str-name.ensures.text in
     let clash : clashes ts (entry_views c.args.entries.now) e.name ≡ true =
-        ap (clashes ts (entry_views c.args.entries.now)) (sym name) ∙ ap (λ n. has_name ts c.as_str-name.result.now || nat_lt 1 n) (sym (c.in_ok-counts.ensures c.as_str-name.result.now)) ∙ sym c.if-has_clash.ensures in (
+    ap (clashes ts (entry_views c.args.entries.now)) (sym name) ∙ ap (λ n. has_name ts c.as_str-name.result.now || nat_lt 1 n) (sym (c.in_ok-counts.ensures c.as_str-name.result.now)) ∙ sym c.if-has_clash.ensures in (
       e,
       at_get c.args.entries.now c.loop-i.i e c.loop-i-test.true c.index-entries-i.is,
       ap (option_map (λ (n : Named). n.name)) (clash_here (λ (n : Named). clashes ts (entry_views c.args.entries.now) n.name) c.args.entries.now c.loop-i.i e c.loop-i-test.true c.index-entries-i.is c.loop-i.invariant clash),
@@ -27,5 +25,5 @@ loop-i-preserved c =
     let ts = (seen c.args.self.now).types in
     let name : c.as_str-name.result.now ≡ e.name = c.as_str-name.ensures.text in
     let none : clashes ts (entry_views c.args.entries.now) e.name ≡ false =
-        ap (clashes ts (entry_views c.args.entries.now)) (sym name) ∙ ap (λ n. has_name ts c.as_str-name.result.now || nat_lt 1 n) (sym (c.in_ok-counts.ensures c.as_str-name.result.now)) ∙ sym c.if-has_clash.ensures in
+    ap (clashes ts (entry_views c.args.entries.now)) (sym name) ∙ ap (λ n. has_name ts c.as_str-name.result.now || nat_lt 1 n) (sym (c.in_ok-counts.ensures c.as_str-name.result.now)) ∙ sym c.if-has_clash.ensures in
     clash_later (λ (n : Named). clashes ts (entry_views c.args.entries.now) n.name) c.args.entries.now c.loop-i.i e c.loop-i-test.true c.index-entries-i.is c.loop-i.invariant none

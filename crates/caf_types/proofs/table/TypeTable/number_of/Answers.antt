@@ -1,4 +1,4 @@
-use Rattle.std.proofs.Common.{◌≡◌, ℕ, sym, ap, subst, ◌∙◌, Option, Some, None, List, true, false}
+use Rattle.std.proofs.Common.{◌≡◌, ℕ, sym, ap, subst, ◌∙◌, Some, None, List, false}
 use Rattle.std.specs.Option.{option_map}
 use Rattle.std.specs.Prelude.{bytes_eq}
 use Rattle.std.proofs.lemmas.Slice.Eq.{bytes_eq-Decides}
@@ -31,7 +31,7 @@ returns-then-eq-clause-named c =
     let here = type_at-there _ c.in_ok-position.field-0.now _ _ _ c.self.invariant there in
     let name = sym c.as_str.ensures.text ∙ (bytes_eq-Decides c.as_str.result.now c.args.name.now).0 (sym c.if-eq.ensures) in
     subst (λ (v : Listing). option_map (λ (n : Named). n.name) (type_at (types_of v.types) c.in_ok-listed.listed.now.id) ≡ Some c.args.name.now) c.self.view_is
-      (ap (option_map (λ (n : Named). n.name)) here ∙ ap (λ (n : List ℕ). Some n) name)
+    (ap (option_map (λ (n : Named). n.name)) here ∙ ap (λ (n : List ℕ). Some n) name)
 
 pub returns-else-eq-clause-id : goal.returns-else-eq-clause-id
 returns-else-eq-clause-id c =
