@@ -4,7 +4,7 @@ ghost use Rattle.caf_words.specs.Datum as of;
 ghost use Rattle.caf_words.specs.Datum.{data_of};
 ghost use Rattle.caf_words.specs.Value.{datum};
 
-use caf_types::{Field, Items, Letters, Octets, Shape};
+use caf_types::{Field, Items, Letters, Octets, PLACES, Shape};
 
 /// A value, of one shape or another.
 #[derive(Debug, Drop)]
@@ -15,7 +15,7 @@ pub enum Value {
     Signed(i64),
     Text(Letters),
     Bytes(Octets),
-    /// The number of a place. Of the shape `Place` are those below 256.
+    /// The number of a place. Of the shape `Place` are those below [`PLACES`].
     Place(u32),
     List(Items<Value>),
     Object(Items<Value>),
@@ -33,7 +33,7 @@ pub fn fits(value: &Value, shape: &Shape) -> bool
         | (Value::Signed(_), Shape::Signed)
         | (Value::Text(_), Shape::Text)
         | (Value::Bytes(_), Shape::Bytes) => true,
-        (Value::Place(place), Shape::Place) => *place < 256,
+        (Value::Place(place), Shape::Place) => *place < PLACES,
         (Value::List(items), Shape::List(item)) => all_fit(items.as_slice(), item.get()),
         (Value::Object(items), Shape::Object(fields)) => {
             each_fits(items.as_slice(), fields.as_slice())
