@@ -1,5 +1,5 @@
 -- What a row wrote is read as the values that it means, and reading it never stops.
-use Rattle.std.proofs.Common.{◌≡◌, ℕ, Bool, true, List, [], ◌++◌, Result, Ok, Err, sym, ap, subst, ◌∙◌}
+use Rattle.std.proofs.Common.{◌≡◌, ℕ, true, List, [], Ok, Err, sym, ap, subst, ◌∙◌}
 use Rattle.std.proofs.lemmas.List.{append-nil}
 use Rattle.caf_types.specs.ShapeTree.{ShapeTree}
 use Rattle.caf_words.specs.Datum.{Data, are_in_range}

@@ -1,5 +1,5 @@
 -- The word form: how values are spelled as words of 64 bits.
-use Rattle.std.specs.Prelude.{◌≡◌, ℕ, zero, suc, ◌+◌, ◌/◌, ◌^◌, ◌<◌, ℤ, Bool, true, false, List, [], ◌∷◌, ◌++◌, length, drop}
+use Rattle.std.specs.Prelude.{◌≡◌, ℕ, zero, suc, ◌+◌, ◌/◌, ◌^◌, ◌<◌, ℤ, Bool, true, false, List, [], ◌∷◌, ◌++◌, length, take, drop}
 use Rattle.std.specs.Int.{w64, from_le_bytes, cast_unsigned}
 use Rattle.std.specs.Int.RustNames.{FitsSigned}
 use Rattle.std.specs.Str.{IsUtf8}
@@ -40,6 +40,10 @@ abbrev mutual
   pub spellings : Data → List ℕ
   spellings no_data = []
   spellings (more d ds) = spelling d ++ spellings ds
+
+-- words that begin with those: these stay, whatever follows them
+abbrev pub IsFront : List ℕ → List ℕ → Type 0
+IsFront front words = take (length front) words ≡ front
 
 -- a list of bytes
 abbrev pub AreBytes : List ℕ → Type 0

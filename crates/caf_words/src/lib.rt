@@ -5,7 +5,8 @@
 //! the place of the first fault where no values have the words as their spellings.
 //!
 //! The contract that the layers above rest on: [`spell`] and [`read`] are one relation. A value has
-//! one spelling, no spelling begins another of its shape, and what was spelled is read again.
+//! one spelling, no spelling begins another of its shape, and what was spelled is read again. A
+//! [`Row`] writes and reads the words of its elements itself, without values between.
 #![tactic(auto)]
 
 mod laws;
@@ -34,5 +35,5 @@ pub use stop::{SpellFault, Stop};
 pub use text::{read_bytes, read_text, write_bytes, write_text};
 pub use value::{Value, fits};
 
-
-
+#[cfg(test)]
+mod tests;

@@ -1,10 +1,10 @@
-ghost use Rattle.std.specs.Prelude.{◌≡◌, ◌++◌, ℕ, List, length, map, true, IsTrue, IfOk, OnOk};
+ghost use Rattle.std.specs.Prelude.{◌≡◌, ◌++◌, ℕ, List, length, map, true, IsTrue, IfOk, OnOk, OnErr};
 ghost use Rattle.caf_types.specs.Shape.{tree};
 ghost use Rattle.caf_types.specs.ShapeTree.{ShapeTree};
 ghost use Rattle.caf_words.specs.Answer.{Gives};
 ghost use Rattle.caf_words.specs.Datum.{Data, data_of, are_in_range};
 ghost use Rattle.caf_words.specs.Several.{ids_of, several, several_fit};
-ghost use Rattle.caf_words.specs.Spelling.{spellings};
+ghost use Rattle.caf_words.specs.Spelling.{spellings, IsFront};
 ghost use Rattle.caf_words.specs.Value.{datum};
 
 use crate::reading::values_of_shapes;
@@ -36,10 +36,12 @@ pub trait Row: Sized {
     fn shapes(alloc: Global) -> Result<Seq<Shape>, Memory>
         ensures { IfOk result (λ found. map tree found ≡ shapes) };
 
-    /// Adds the spellings of the elements.
+    /// Adds the spellings of the elements. After want of memory what stood there still stands, and part
+    /// of a spelling may follow it.
     fn write_words(&self, words: &mut Vec<u64>) -> Result<(), Memory>
         ensures spelled { OnOk result (words.new.items ≡ words.old.items ++ spellings (means self.now)) }
-        ensures in_range { OnOk result (are_in_range (means self.now) ≡ true) };
+        ensures in_range { OnOk result (are_in_range (means self.now) ≡ true) }
+        ensures front { OnErr result (IsFront words.old.items words.new.items) };
 
     /// The row whose elements' spellings the words begin with, and the words after them.
     fn read_words(alloc: Global, words: &[u64]) -> Result<(Self, &[u64]), Stop>

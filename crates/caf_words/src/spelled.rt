@@ -4,7 +4,7 @@ ghost use Rattle.caf_types.specs.ShapeTree.{ShapeTree};
 ghost use Rattle.caf_words.specs.Answer.{Gives};
 ghost use Rattle.caf_words.specs.Datum.{Datum, data_of, a_list, fits, is_in_range, are_in_range};
 ghost use Rattle.caf_words.specs.Reading.{reading, many};
-ghost use Rattle.caf_words.specs.Spelling.{spelling, spellings};
+ghost use Rattle.caf_words.specs.Spelling.{spelling, spellings, IsFront};
 
 use crate::scalar::{read_word, write_word};
 use crate::stop::Stop;
@@ -20,10 +20,12 @@ pub trait Spelled: Sized {
     /// The value that one of the type stands for.
     ghost means: { Self → Datum };
 
-    /// Adds the spelling of the value.
+    /// Adds the spelling of the value. After want of memory what stood there still stands, and part of a
+    /// spelling may follow it.
     fn write(&self, words: &mut Vec<u64>) -> Result<(), Memory>
         ensures spelled { OnOk result (words.new.items ≡ words.old.items ++ spelling (means self.now)) }
-        ensures in_range { OnOk result (is_in_range (means self.now) ≡ true) };
+        ensures in_range { OnOk result (is_in_range (means self.now) ≡ true) }
+        ensures front { OnErr result (IsFront words.old.items words.new.items) };
 
     /// The value of the shape that the words begin with, and the words after it.
     fn read(alloc: Global, words: &[u64]) -> Result<(Self, &[u64]), Stop>
@@ -33,10 +35,12 @@ pub trait Spelled: Sized {
     ghost fits_shape: { (it : Self) → fits shape (means it) ≡ true };
 }
 
-/// Adds the spelling of a list.
+/// Adds the spelling of a list. After want of memory what stood there still stands, and part of a
+/// spelling may follow it.
 pub fn write_list<T: Spelled>(words: &mut Vec<u64>, items: &[T]) -> Result<(), Memory>
     ensures spelled { OnOk result (words.new.items ≡ words.old.items ++ spelling (a_list (data_of (map T.means items.now)))) }
     ensures in_range { OnOk result (is_in_range (a_list (data_of (map T.means items.now))) ≡ true) }
+    ensures front { OnErr result (IsFront words.old.items words.new.items) }
 {
     write_word(words, items.len() as u64)?;
     write_each(words, items)?;
@@ -46,6 +50,7 @@ pub fn write_list<T: Spelled>(words: &mut Vec<u64>, items: &[T]) -> Result<(), M
 fn write_each<T: Spelled>(words: &mut Vec<u64>, items: &[T]) -> Result<(), Memory>
     ensures spelled { OnOk result (words.new.items ≡ words.old.items ++ spellings (data_of (map T.means items.now))) }
     ensures in_range { OnOk result (are_in_range (data_of (map T.means items.now)) ≡ true) }
+    ensures front { OnErr result (IsFront words.old.items words.new.items) }
 {
     for item in items {
         item.write(words)?;

@@ -9,15 +9,23 @@ use caf_types::{Field, Items, Letters, Octets, PLACES, Shape};
 /// A value, of one shape or another.
 #[derive(Debug, Drop)]
 pub enum Value {
+    /// The one value without parts, as an atom has it.
     Unit,
+    /// True or false.
     Flag(bool),
+    /// A whole number of 64 bits.
     Unsigned(u64),
+    /// A whole number of 64 bits in two's complement.
     Signed(i64),
+    /// A text in UTF-8.
     Text(Letters),
+    /// Any bytes.
     Bytes(Octets),
     /// The number of a place. Of the shape `Place` are those below [`PLACES`].
     Place(u32),
+    /// Values of one shape.
     List(Items<Value>),
+    /// A value for each field, in declared order.
     Object(Items<Value>),
 }
 

@@ -1,6 +1,5 @@
 use Rattle.std.proofs.Common.{refl, ◌-◌, ◌≡◌, ◌+◌, ◌*◌, ◌≤◌, ◌++◌, ◌∷◌, [], length, drop, sym, ap, subst, ◌∙◌, List, ℕ, append_assoc, rules, min, arith}
 use Rattle.std.proofs.lemmas.List.{drop_min, length-drop}
-use Rattle.std.specs.Prelude.{vec_len, vec_capacity}
 use Rattle.std.specs.Int.{w64, from_le_bytes}
 use Rattle.caf_words.specs.Spelling.{packed}
 use Rattle.caf_words.proofs.PackingLemmas.{packed_more}

@@ -1,7 +1,7 @@
 use Rattle.std.proofs.Common.{◌≡◌, ◌++◌, ◌∙◌, ℕ, List, map, ap, refl, sym, true, Err, subst}
 use Rattle.caf_words.specs.Answer.{Fails}
-use Rattle.caf_words.specs.Datum.{Data, data_of, are_in_range}
-use Rattle.caf_words.specs.Several.{several, several_fit, SeveralSpell}
+use Rattle.caf_words.specs.Datum.{Data, data_of}
+use Rattle.caf_words.specs.Several.{several, several_fit}
 use Rattle.caf_words.specs.Spelling.{spellings}
 use Rattle.caf_words.specs.Value.{datum}
 use Rattle.caf_words.specs.declared.stop.Stop.{Stop}

@@ -1,4 +1,4 @@
-use Rattle.std.proofs.Common.{◌≡◌, ◌++◌, ◌∙◌, ℕ, List, map, ap, refl, Err, subst}
+use Rattle.std.proofs.Common.{◌≡◌, ◌++◌, ◌∙◌, ℕ, List, map, ap, Err, subst}
 use Rattle.caf_types.specs.Shape.{tree}
 use Rattle.caf_types.specs.declared.shape.Shape.{Shape}
 use Rattle.caf_words.specs.Answer.{Fails}
