@@ -3,7 +3,7 @@ use Rattle.std.specs.Prelude.{ℕ, zero, suc, ◌+◌, ◌-◌, ◌==◌, nat_lt
 use Rattle.std.specs.Int.{w64, to_le_bytes, cast_signed}
 use Rattle.std.specs.Str.{is_utf8}
 use Rattle.caf_types.specs.ShapeTree.{ShapeTree, unit, flag, unsigned, signed, text, bytes, place, list, object, Parts, no_parts, part, count_parts}
-use Rattle.caf_types.specs.declared.limits.TheConstants.{PLACES}
+use Rattle.caf_types.specs.Limits.{places}
 use Rattle.caf_words.specs.Datum.{Datum, a_unit, a_flag, an_unsigned, a_signed, a_text, some_bytes, a_place, a_list, an_object, Data, no_data, more}
 use Rattle.caf_words.specs.Spelling.{words_for}
 
@@ -51,7 +51,7 @@ abbrev pub flag_in : ℕ → Option Datum
 flag_in w = if w == 0 then Some (a_flag false) else if w == 1 then Some (a_flag true) else None
 
 abbrev pub place_in : ℕ → Option Datum
-place_in w = if nat_lt w PLACES then Some (a_place w) else None
+place_in w = if nat_lt w places then Some (a_place w) else None
 
 -- ---- texts and bytes: first the end of the words, then the filling, then UTF-8
 

@@ -4,7 +4,7 @@ use Rattle.std.specs.Int.{w64, from_le_bytes, cast_unsigned}
 use Rattle.std.specs.Int.RustNames.{FitsSigned}
 use Rattle.std.specs.Str.{IsUtf8}
 use Rattle.caf_types.specs.ShapeTree.{ShapeTree, unit, flag, unsigned, signed, text, bytes, place, list, object, Parts, no_parts, part}
-use Rattle.caf_types.specs.declared.limits.TheConstants.{PLACES}
+use Rattle.caf_types.specs.Limits.{places}
 use Rattle.caf_words.specs.Datum.{Datum, a_unit, a_flag, an_unsigned, a_signed, a_text, some_bytes, a_place, a_list, an_object, Data, no_data, more, count}
 
 -- how many words hold n bytes
@@ -64,7 +64,7 @@ abbrev mutual
   Spells signed d ws = (z : ℤ) × FitsSigned w64 z × (d ≡ a_signed z) × (ws ≡ cast_unsigned w64 z ∷ [])
   Spells text d ws = (bs : List ℕ) × AreBytes bs × (length bs < 2 ^ 64) × IsUtf8 bs × (d ≡ a_text bs) × (ws ≡ length bs ∷ packed bs)
   Spells bytes d ws = (bs : List ℕ) × AreBytes bs × (length bs < 2 ^ 64) × (d ≡ some_bytes bs) × (ws ≡ length bs ∷ packed bs)
-  Spells place d ws = (n : ℕ) × (n < PLACES) × (d ≡ a_place n) × (ws ≡ n ∷ [])
+  Spells place d ws = (n : ℕ) × (n < places) × (d ≡ a_place n) × (ws ≡ n ∷ [])
   Spells (list f) d ws = (ds : Data) × (count ds < 2 ^ 64) × (d ≡ a_list ds) × (rest : List ℕ) × EachSpells (Spells f) ds rest × (ws ≡ count ds ∷ rest)
   Spells (object ps) d ws = (ds : Data) × (count ds < 2 ^ 64) × (d ≡ an_object ds) × (rest : List ℕ) × PartsSpell ps ds rest × (ws ≡ count ds ∷ rest)
 
