@@ -1,4 +1,5 @@
 pub mod PickLemmas
 pub mod LineLemmas
+pub mod DelayLemmas
 pub mod FiledLemmas
 pub mod NumberLemmas

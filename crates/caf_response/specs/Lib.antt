@@ -4,3 +4,4 @@ pub mod Promised
 pub mod Promise
 pub mod Holds
 pub mod Lines
+pub mod Delays

@@ -10,6 +10,7 @@
 //! the response to its request, with the request's priority.
 #![tactic(auto)]
 
+mod delays;
 mod fault;
 mod held;
 mod holds;
@@ -18,6 +19,7 @@ mod lines;
 mod pending;
 mod promise;
 
+pub use delays::Delays;
 pub use fault::IssueFault;
 pub use holds::Holds;
 pub use pending::{Mode, Pending, Waiting};
