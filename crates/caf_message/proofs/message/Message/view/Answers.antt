@@ -1,5 +1,4 @@
 use Rattle.std.proofs.Common.{◌≡◌, ℕ, ◌+◌, List, length, drop, sym, ap, subst, ◌∙◌}
-use Rattle.caf_types.specs.Table.{Table}
 use Rattle.caf_types.specs.TypeTable.{seen}
 use Rattle.caf_types.specs.declared.shape.TypeId.{TypeId}
 use Rattle.caf_words.specs.Several.{ids_of, SeveralSpell}
