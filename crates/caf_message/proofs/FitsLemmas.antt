@@ -269,3 +269,14 @@ pub means_fit : (shape_of : ℕ → Option ShapeTree) (words ids : List ℕ) (sh
 means_fit shape_of words ids shapes values have m =
     let same : m.shapes ≡ shapes = same_shapes m.shapes shapes (sym m.have_shapes ∙ have) in
     ap (λ (fs : List ShapeTree). several_fit fs values) (sym same) ∙ several_are_fit m.shapes values (spellings values) m.are_values
+
+-- behind the IDs of a row, in a content that fits the table, stand the spellings of values of its shapes
+pub behind_ids : (t : Table) (words ids : List ℕ) (fs : List ShapeTree) (fit : FitsTable t words) → HaveShapes (shape_at t) ids fs → ids_in words ≡ ids → SeveralSpell fs fit.values (drop (length ids + 1) words)
+behind_ids t words ids fs fit have same =
+    subst (λ (o : Option (List ShapeTree)). ShapesSpell o fit.values (drop (length ids + 1) words)) (shapes_found t ids fs have) (spelled_behind t words ids fit same)
+
+-- and what they spell is what the content means
+pub means_row : (t : Table) (words ids : List ℕ) (fs : List ShapeTree) (fit : FitsTable t words) → HaveShapes (shape_at t) ids fs → ids_in words ≡ ids → (values : Data) → SeveralSpell fs values (drop (length ids + 1) words) → Means (shape_at t) words ids values
+means_row t words ids fs fit have same values s =
+    means_of t words ids fit same values
+    (subst (λ (o : Option (List ShapeTree)). ShapesSpell o values (drop (length ids + 1) words)) (sym (shapes_found t ids fs have)) s)

@@ -1,6 +1,6 @@
 use Rattle.std.proofs.Common.{◌≡◌, ◌++◌, ◌∷◌, length, drop}
 use Rattle.caf_words.specs.Several.{ids_of}
-use Rattle.caf_message.proofs.row.push_types.Given as goal
+use Rattle.caf_message.proofs.row.write_types.Given as goal
 
 -- what was added, and what is left to add
 abbrev pub invariant-loop-id : goal.invariant-loop-id
