@@ -1,5 +1,5 @@
 use Rattle.caf_text.proofs.WholeLemmas.{read_back, has_text, one_value}
-use Rattle.caf_text.proofs.law.text_is_exact.Goals as goal
+use Rattle.caf_text.proofs.laws.text_is_exact.Goals as goal
 
 pub returns-clause-read : goal.returns-clause-read
 returns-clause-read c = read_back

@@ -4,7 +4,7 @@ use Rattle.caf_words.specs.Datum.{Datum, Data, no_data, more}
 use Rattle.caf_words.specs.Reading.{Got, ◌>>=◌}
 use Rattle.caf_text.specs.TextForm.{comma, joined, AllAre}
 use Rattle.caf_text.specs.TextReading.{literal, separator, after_value, values, values_or_none}
-use Rattle.caf_text.proofs.Stops.{ends, Stops, no_cons, pure_stops, literal_stops, then_stops, make_stops, choice_stops, same_stops}
+use Rattle.caf_text.proofs.StopLemmas.{ends, Stops, no_cons, pure_stops, literal_stops, then_stops, make_stops, choice_stops, same_stops}
 
 -- ---- what stands behind a value
 

@@ -2,7 +2,7 @@
 use Rattle.std.proofs.Common.{◌≡◌, ℕ, ◌+◌, ◌-◌, ◌*◌, ◌/◌, ◌%◌, ◌^◌, ◌<◌, ◌≤◌, ◌&&◌, nat_le, le-leb, leb-true, Bool, true, false, List, [], ◌∷◌, ◌++◌, length, Some, None, Ok, Err, decimal, refl, sym, ap, subst, ◌∙◌, append_assoc, append-nil, arith}
 use Rattle.std.proofs.lemmas.Fmt.{decimal_digit, decimal_step, decimal_by_steps}
 use Rattle.caf_text.specs.TextReading.{is_digit, digits, nonzero, number}
-use Rattle.caf_text.proofs.Stops.{Stops, heads, no_cons, choice_stops}
+use Rattle.caf_text.proofs.StopLemmas.{Stops, heads, no_cons, choice_stops}
 
 pub both : (a b : Bool) → (a && b) ≡ true → (a ≡ true) × (b ≡ true)
 both true b h = (refl, h)

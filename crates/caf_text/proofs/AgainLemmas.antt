@@ -11,10 +11,10 @@ use Rattle.caf_words.specs.Spelling.{AreBytes}
 use Rattle.caf_text.specs.TextForm.{comma, colon, escape, is_escaped, joined, text_form, fields_text, IsValue, AreValues, AllAre}
 use Rattle.caf_text.specs.TextReading.{literal, number, nonzero, is_digit, signed_at, unquoted, digit_value, pair_value, values, values_or_none, reading, field_at, fields_at}
 use Rattle.caf_text.specs.declared.quoted.Mark.TheVariants as marks
-use Rattle.caf_text.proofs.Digits.{digit_back, sixteen}
-use Rattle.caf_text.proofs.Numbers.{NoDigit, nonzero_again}
-use Rattle.caf_text.proofs.Stops.{heads}
-use Rattle.caf_text.proofs.Utf8.{plain_escape, escaped_is}
+use Rattle.caf_text.proofs.DigitLemmas.{digit_back, sixteen}
+use Rattle.caf_text.proofs.NumberLemmas.{NoDigit, nonzero_again}
+use Rattle.caf_text.proofs.StopLemmas.{heads}
+use Rattle.caf_text.proofs.Utf8Lemmas.{plain_escape, escaped_is}
 
 abbrev got : {A : Type 0} → A → List ℕ → Got A
 got x rest = Ok (x, rest)

@@ -4,8 +4,8 @@ use Rattle.std.proofs.lemmas.Str.{IsUtf8-append, IsUtf8-from_ascii, IsUtf8-take,
 use Rattle.std.proofs.lemmas.Bool.Decides.{nat_tests}
 use Rattle.hex.specs.Hex.{lower_digits}
 use Rattle.caf_text.specs.TextForm.{escape, is_escaped}
-use Rattle.caf_text.proofs.Digits.{sixteen}
-use Rattle.caf_text.proofs.Stops.{heads}
+use Rattle.caf_text.proofs.DigitLemmas.{sixteen}
+use Rattle.caf_text.proofs.StopLemmas.{heads}
 
 -- ---- parts of a list
 
