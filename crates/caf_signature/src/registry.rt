@@ -80,7 +80,12 @@ impl Registry {
         if self.registered(name.as_str()).is_some() {
             return Err(RegistryFault::Known);
         }
-        insert(self.alloc, &mut self.entries, name.as_str(), (place, interface))?;
+        insert(
+            self.alloc,
+            &mut self.entries,
+            name.as_str(),
+            (place, interface),
+        )?;
         Ok(())
     }
 

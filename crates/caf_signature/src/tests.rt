@@ -89,7 +89,10 @@ fn a_name_is_registered_once(rt: HostRuntime) -> Result<(), Fail> {
 fn faults_are_told_in_words(rt: HostRuntime) -> Result<(), Fail> {
     let alloc = rt.alloc();
     for (fault, text) in [
-        (InterfaceFault::Twice(1), "the input at position 1 stands twice"),
+        (
+            InterfaceFault::Twice(1),
+            "the input at position 1 stands twice",
+        ),
         (InterfaceFault::Memory, "out of memory"),
     ] {
         assert_eq!(rt; fault.to_string(alloc)?.as_str(), text);
