@@ -1,15 +1,15 @@
 -- Values, their spellings, and what fits.
-use Rattle.std.proofs.Common.{◌≡◌, ℕ, suc, ◌+◌, Bool, true, false, ◌&&◌, List, [], ◌∷◌, ◌++◌, length, drop, map, Option, Some, None, refl, sym, ap, subst, ◌∙◌, add-one}
+use Rattle.std.proofs.Common.{◌≡◌, ℕ, suc, ◌+◌, List, [], ◌∷◌, ◌++◌, length, drop, map, Option, Some, None, refl, sym, ap, subst, ◌∙◌, add-one}
 use Rattle.std.proofs.lemmas.List.{map-append}
 use Rattle.std.specs.FinMap as finite
 use Rattle.std.specs.Option.{option_map}
 use Rattle.caf_types.specs.ShapeTree.{ShapeTree}
 use Rattle.caf_types.specs.Table.{Named, Table, shape_at}
-use Rattle.caf_words.specs.Datum.{Datum, Data, no_data, more, data_of, count, fits, is_none}
+use Rattle.caf_words.specs.Datum.{Datum, Data, no_data, more, data_of, count}
 use Rattle.caf_words.specs.Spelling.{spelling, spellings, Spells}
-use Rattle.caf_words.specs.Several.{several_fit, SeveralSpell, shapes_at, joined, ShapesSpell, TypesSpell}
+use Rattle.caf_words.specs.Several.{SeveralSpell, shapes_at, joined, ShapesSpell, TypesSpell}
 use Rattle.caf_words.proofs.SpellingLemmas.{one_spelling}
-use Rattle.caf_words.proofs.RangeLemmas.{is_kept, and_true}
+use Rattle.caf_words.proofs.RangeLemmas.{is_kept}
 use Rattle.caf_message.specs.Content.{content_of, ids_in, IsContent}
 use Rattle.caf_message.specs.Entries.{TableEntries, entry_shape, HasEntries}
 use Rattle.caf_message.specs.Fits.{AreValues, HaveShapes, Means, Fits, FitsTable}
