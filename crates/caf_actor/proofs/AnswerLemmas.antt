@@ -1,5 +1,5 @@
 -- Answers that pass nothing on.
-use Rattle.std.proofs.Common.{◌≡◌, ℕ, Bool, true, false, List, refl}
+use Rattle.std.proofs.Common.{◌≡◌, ℕ, Bool, true, false, List, refl, sym, ap}
 use Rattle.caf_response.specs.Promised.{Promised}
 use Rattle.caf_actor.specs.declared.origin.Origin.{Origin}
 use Rattle.caf_actor.specs.PlainReaction.{PlainAnswer}
@@ -32,6 +32,15 @@ module _ {S : Type 0} (t : Handled S) (xs ys : List ℕ) where
       go : (b : Bool) → is_asked origin ≡ b → answer t origin xs a ≡ answer t origin ys a
       go true e = rw e (same_request (promised_to origin) a h)
       go false e = rw e (same_tell origin a h)
+
+-- nor those of what was kept, unless it is passed on
+pub kept_answer : {S : Type 0} (t : Handled S) (words kept : List ℕ) (origin : Origin) (a : PlainAnswer) → (is_delegation a ≡ true → kept ≡ words)
+    → answer t origin words a ≡ answer t origin kept a
+kept_answer t words kept origin a same = go (is_delegation a) refl
+  where
+    go : (b : Bool) → is_delegation a ≡ b → answer t origin words a ≡ answer t origin kept a
+    go true e = ap (λ (ws : List ℕ). answer t origin ws a) (sym (same e))
+    go false e = same_answer t words kept origin a e
 
 -- content that is passed on is of types for which the behaviour said so
 pub passes_as_told : {S : Type 0} (valid : S → Type 0) (rules : Rules S) → DelegatesAsTold valid rules → (s : S) (origin : Origin) (words : List ℕ) → valid s

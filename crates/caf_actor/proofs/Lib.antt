@@ -9,3 +9,4 @@ pub mod ResolutionLemmas
 pub mod DueLemmas
 pub mod TickLemmas
 pub mod AnswerLemmas
+pub mod QuitLemmas

@@ -9,7 +9,7 @@ use Rattle.caf_steps.specs.Reference.{second}
 use Rattle.caf_types.specs.declared.notice.Priority.{Priority}
 use Rattle.caf_actor.specs.Snapshot.{Handled}
 use Rattle.caf_actor.specs.Sending.{tell, tell_many}
-use Rattle.caf_actor.specs.Sharing.{to_each, tell_each, further_of, retained_times}
+use Rattle.caf_actor.specs.Sharing.{to_each, tell_each, further_of, retained_times, IsShared, shared_among}
 
 -- one content for each place, told one after the other
 pub told_each : {S : Type 0} (t : Handled S) (places : List ℕ) (priority : Priority) (words : List ℕ) → tell_each t priority (to_each places words) ≡ tell_many t places priority words
@@ -46,3 +46,10 @@ pub room_left : (room n : ℕ) → 4096 ≤ room + n → 4096 ≤ (room - 1 - ro
 room_left room n h =
     let part : 2048 * (room / 2048) ≤ room = mul-div-le room 2048 in
     omega arith
+
+-- the first place gets the reference itself
+pub shared_first : (r : Reference) (places : List ℕ) → 1 ≤ length places → IsShared r (length places) (shared_among r places)
+shared_first r [] h = absurd (omega arith)
+shared_first r (to ∷ places) h =
+    let others : suc (length places) - 1 ≡ length places = omega arith in
+    retained_steps r (length places) ∙ ap (λ (n : ℕ). r.steps ++ replicate n Retain) (sym others)

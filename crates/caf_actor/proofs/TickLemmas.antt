@@ -6,13 +6,13 @@ use Rattle.caf_types.specs.declared.shape.TypeId.{TypeId}
 use Rattle.caf_response.specs.declared.pending.Mode.{Mode}
 use Rattle.caf_response.specs.declared.pending.Waiting.{Waiting}
 use Rattle.caf_response.specs.Delays.{PlainDelay, next_delay}
-use Rattle.caf_response.specs.Pending.{WaitingRequests, issued_within, issued, with_due, forgotten, resolved, expired}
+use Rattle.caf_response.specs.Pending.{WaitingRequests, issued_within, issued, forgotten, resolved, expired}
 use Rattle.caf_actor.specs.declared.snapshot.Snapshot.{Snapshot}
 use Rattle.caf_actor.specs.Clock.{due_after}
 use Rattle.caf_actor.specs.Rules.{Rules}
 use Rattle.caf_actor.specs.Snapshot.{Handled, with_snapshot}
 use Rattle.caf_actor.specs.Sending.{issue, issue_within}
-use Rattle.caf_actor.specs.Ticking.{time_out, expiry, next_due, due_count, expire_for, expire_all, send_delayed, delivery, deliver_for, deliver_all}
+use Rattle.caf_actor.specs.Ticking.{timeout_input, time_out, expiry, next_due, due_count, expire_for, expire_all, send_delayed, delivery, deliver_for, deliver_all}
 use Rattle.caf_actor.proofs.KeptLemmas.{Keeps, on_give}
 use Rattle.caf_actor.proofs.DueLemmas.{is_due, fewer_due, same_due_within, same_due_issued}
 
@@ -82,9 +82,9 @@ module _ {S : Type 0} (rules : Rules S) where
       let now = t.snapshot.clock in
       let less = fewer_due t.snapshot.pending now found q in
       let u : Handled S = with_snapshot t (record t.snapshot { pending = found.1 }) in
-      let after = on_give rules (IsDueAtMost now (count_by (is_due now) found.1.due)) (due_keeps now (count_by (is_due now) found.1.due)) u _ tt (refl, omega arith) in
+      let after = on_give rules (IsDueAtMost now (count_by (is_due now) found.1.due)) (due_keeps now (count_by (is_due now) found.1.due)) u (timeout_input found.0) tt (refl, omega arith) in
       let most = after.1 in
-      let same = after.0 in
+      let same : (time_out rules t found).snapshot.clock ≡ now = after.0 in
       rw same (omega arith)
 
   none_due : (t : Handled S) → due_count t.snapshot ≡ 0 → (r : Option (Waiting × WaitingRequests)) → next_due t.snapshot ≡ r → next_due t.snapshot ≡ None

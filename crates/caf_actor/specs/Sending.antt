@@ -1,6 +1,6 @@
 -- How one actor sends: each envelope has the stamp of the batch, and the next number of its receiver.
 use Rattle.std.specs.Prelude.{ℕ, ◌==◌, nat_le, Bool, false, if◌then◌else◌, List, [], ◌∷◌, ◌++◌, Option, Some, None}
-use Rattle.caf_types.specs.declared.limits.TheConstants.{LAST_COUNT}
+use Rattle.caf_types.specs.Limits.{last_count}
 use Rattle.caf_types.specs.declared.notice.Mid.{Mid}
 use Rattle.caf_types.specs.declared.notice.Notice.{Notice}
 use Rattle.caf_types.specs.declared.notice.Notice.TheVariants as notice
@@ -61,7 +61,7 @@ reply t p body = send_reply t (reply_of p body)
 
 -- the last number is 2^63
 abbrev pub may_issue : {S : Type 0} → Snapshot S → Bool
-may_issue s = nat_le s.pending.next LAST_COUNT
+may_issue s = nat_le s.pending.next last_count
 
 abbrev pub issue : {S : Type 0} → Snapshot S → Mode → ℕ → List TypeId → Snapshot S
 issue s mode tag expected = record s { pending = issued s.pending mode tag expected }

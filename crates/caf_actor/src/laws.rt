@@ -2,6 +2,7 @@
 //! places, and laws that follow from the definitions alone. A law is the contract of a function that
 //! does nothing.
 ghost use Rattle.caf_actor.specs.Carriers.{EndsAsDeclared, CarriersRest};
+ghost use Rattle.caf_actor.specs.Resolutions.{NoneAfterQuitting};
 
 use crate::Behavior;
 pub use crate::sharing::{address, another_message};
@@ -15,4 +16,10 @@ pub fn requests_end_as_declared<B: Behavior>()
 /// envelope is eligible.
 pub fn carriers_rest_in_holds_and_lists<B: Behavior>()
     ensures { CarriersRest B.is_valid B.rules }
+{}
+
+/// Once an actor has quit, no batch reaches its behaviour or changes its reason, and none resolves a
+/// request.
+pub fn none_handled_after_quitting<B: Behavior>()
+    ensures { NoneAfterQuitting B.rules }
 {}

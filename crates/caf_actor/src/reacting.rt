@@ -83,7 +83,12 @@ impl<B: Behavior> Snapshot<B> {
 
 /// The content for a behaviour: this very reference, which is retained once where it may be delegated
 /// and has room.
-fn content_input(alloc: Global, origin: Origin, message: Message, passes: bool) -> Result<Given, Memory>
+fn content_input(
+    alloc: Global,
+    origin: Origin,
+    message: Message,
+    passes: bool,
+) -> Result<Given, Memory>
     ensures input { IfOk result (λ given. plain_input given.input ≡ plain_in.Content origin message.content) }
     ensures second { passes ≡ true → IfOk result (λ given. IsSome given.second) }
     ensures same { passes ≡ true → IfOk result (λ given. kept_content given.second ≡ message.content) }

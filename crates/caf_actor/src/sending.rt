@@ -1,5 +1,5 @@
 //! How an actor sends: each envelope has the stamp of the batch and the next number of its receiver.
-ghost use Rattle.std.specs.Prelude.{◌≡◌, ◌≤◌, false, [], ◌∷◌, ◌++◌, length, map, None, OnOk, IsOk};
+ghost use Rattle.std.specs.Prelude.{◌≡◌, ◌≤◌, false, [], ◌∷◌, ◌++◌, length, map, None, IfOk, OnOk, IsOk};
 ghost use Rattle.caf_message.specs.Envelope.{plain_body};
 ghost use Rattle.caf_message.specs.Envelope as envelope;
 ghost use Rattle.caf_observe.specs.Places.{has_place, without_place};
@@ -18,8 +18,7 @@ use crate::{Output, Snapshot};
 use caf_message::{Body, Envelope, Message};
 use caf_response::{IssueFault, Mode, Reply};
 use caf_types::{Memory, Mid, Notice, Places, Priority, Sec, Seq, TypeIds};
-use std::alloc::Global;
-use std::mem;
+use std::alloc::{AllocError, Global};
 
 impl<B> Snapshot<B> {
     /// Posts one envelope.
@@ -262,16 +261,17 @@ impl<B> Snapshot<B> {
         if !self.unstarted.as_slice().contains(&place) {
             return Ok(());
         }
-        self.take_unstarted(alloc, place);
+        self.take_unstarted(alloc, place)?;
         self.notify(posts, place, Notice::Begin(self.place))
     }
 
     /// Takes the place out of those whose child wasn't started.
-    fn take_unstarted(&mut self, alloc: Global, place: u32)
-        ensures { self.new ≡ record self.old { unstarted = without_place self.old.unstarted place } }
+    fn take_unstarted(&mut self, alloc: Global, place: u32) -> Result<(), Memory>
+        ensures { OnOk result (self.new ≡ record self.old { unstarted = without_place self.old.unstarted place }) }
     {
-        let unstarted = mem::replace(&mut self.unstarted, Places::new(alloc));
-        self.unstarted = without(unstarted, place);
+        let others = without(alloc, self.unstarted.as_slice(), place)?;
+        self.unstarted = Places::of_vec(others);
+        Ok(())
     }
 
     /// Keeps a content until so many ticks have come.
@@ -346,10 +346,12 @@ impl<B> Snapshot<B> {
 }
 
 /// The other places.
-fn without(places: Places, place: u32) -> Places
-    ensures { result ≡ without_place places place }
+fn without(alloc: Global, places: &[u32], place: u32) -> Result<Vec<u32>, AllocError>
+    ensures { IfOk result (λ others. others.items ≡ without_place places.now place) }
 {
-    let mut places = places.into_vec();
-    places.retain(|other| *other != place);
-    Places::of_vec(places)
+    places
+        .iter()
+        .copied()
+        .filter(|other| *other != place)
+        .collect(alloc)
 }
