@@ -9,9 +9,10 @@ use Rattle.caf_mailbox.proofs.NextLemmas.{AllCached, cached_next, all_next, all_
 use Rattle.caf_actor.specs.declared.snapshot.Snapshot.{Snapshot}
 use Rattle.caf_actor.specs.Rules.{Rules}
 use Rattle.caf_actor.specs.Actor.{CachesFit}
-use Rattle.caf_actor.specs.Snapshot.{Handled, cached, is_eligible, next_envelope}
+use Rattle.caf_actor.specs.Snapshot.{Handled, cached}
+use Rattle.caf_actor.specs.Eligibility.{is_eligible, next_envelope}
 use Rattle.caf_actor.specs.Handling.{handle_one}
-use Rattle.caf_actor.proofs.KeptLemmas.{on_one}
+use Rattle.caf_actor.proofs.KeptLemmas.{Keeps, KeepsToo, on_one}
 
 -- ---- the next envelope
 
@@ -36,13 +37,54 @@ module _ {S : Type 0} (rules : Rules S) where
             others = λ all. (all_next test P s.caches r all e).1;
           })
 
-  pub cached_one : (t : Handled S) (e : Taken) → cached (handle_one rules t e).0 ≤ cached t.0
-  cached_one t e =
-      on_one rules (λ u. cached u.0 ≤ cached t.0) (λ u to mid priority body h. h) (λ u i h. h) (λ u holds h. h) (λ u pending h. h) (λ u observers h. h) (λ u why h. omega arith) t e (omega arith)
+  -- no more is cached than before
+  cached_keeps : (n : ℕ) → Keeps rules (λ u. cached u.snapshot ≤ n)
+  cached_keeps n = record {
+    on_post = λ t to mid priority body h. h;
+    on_behavior = λ t i may h. h;
+    on_holds = λ t holds h. h;
+    on_issue = λ t mode tag expected h. h;
+    on_issue_within = λ t ticks mode tag expected h. h;
+    on_observers = λ t observers h. h;
+    on_unstarted = λ t unstarted h. h;
+    on_delays = λ t delays h. h;
+    on_emptied = λ t why h. omega arith;
+  }
 
-  pub all_cached_one : (P : Taken → Type 0) (t : Handled S) (e : Taken) → AllCached P t.0.caches → AllCached P (handle_one rules t e).0.caches
-  all_cached_one P t e all =
-      on_one rules (λ u. AllCached P u.0.caches) (λ u to mid priority body h. h) (λ u i h. h) (λ u holds h. h) (λ u pending h. h) (λ u observers h. h) (λ u why h. (tt, tt)) t e all
+  cached_keeps_too : (n : ℕ) → KeepsToo rules (λ u. cached u.snapshot ≤ n)
+  cached_keeps_too n = record {
+    on_resolved = λ t number found e h. h;
+    on_expired = λ t found e h. h;
+    on_begun = λ t h. h;
+    on_clock = λ t h. h;
+  }
+
+  pub cached_one : (t : Handled S) (e : Taken) → cached (handle_one rules t e).snapshot ≤ cached t.snapshot
+  cached_one t e = on_one rules (λ u. cached u.snapshot ≤ cached t.snapshot) (cached_keeps (cached t.snapshot)) (cached_keeps_too (cached t.snapshot)) t e (omega arith)
+
+  all_keeps : (P : Taken → Type 0) → Keeps rules (λ u. AllCached P u.snapshot.caches)
+  all_keeps P = record {
+    on_post = λ t to mid priority body h. h;
+    on_behavior = λ t i may h. h;
+    on_holds = λ t holds h. h;
+    on_issue = λ t mode tag expected h. h;
+    on_issue_within = λ t ticks mode tag expected h. h;
+    on_observers = λ t observers h. h;
+    on_unstarted = λ t unstarted h. h;
+    on_delays = λ t delays h. h;
+    on_emptied = λ t why h. (tt, tt);
+  }
+
+  all_keeps_too : (P : Taken → Type 0) → KeepsToo rules (λ u. AllCached P u.snapshot.caches)
+  all_keeps_too P = record {
+    on_resolved = λ t number found e h. h;
+    on_expired = λ t found e h. h;
+    on_begun = λ t h. h;
+    on_clock = λ t h. h;
+  }
+
+  pub all_cached_one : (P : Taken → Type 0) (t : Handled S) (e : Taken) → AllCached P t.snapshot.caches → AllCached P (handle_one rules t e).snapshot.caches
+  all_cached_one P t e all = on_one rules (λ u. AllCached P u.snapshot.caches) (all_keeps P) (all_keeps_too P) t e all
 
 -- ---- a batch that is filed
 

@@ -4,10 +4,9 @@ pub mod KeptLemmas
 pub mod CachedLemmas
 pub mod DrainLemmas
 pub mod SharingLemmas
-pub mod ExampleActors
-pub mod BatchExamples
-pub mod RecordExamples
-pub mod RunExamples
-pub mod CloserExample
 pub mod StampLemmas
 pub mod ResolutionLemmas
+pub mod DueLemmas
+pub mod TickLemmas
+pub mod AnswerLemmas
+pub mod QuitLemmas

@@ -10,11 +10,12 @@ use Rattle.caf_mailbox.proofs.NextLemmas.{all_append}
 use Rattle.caf_actor.specs.declared.snapshot.Snapshot.{Snapshot}
 use Rattle.caf_actor.specs.Rules.{Rules}
 use Rattle.caf_actor.specs.PlainPost.{PlainPost}
-use Rattle.caf_actor.specs.Snapshot.{Handled, cached, is_eligible, with_caches, next_envelope}
+use Rattle.caf_actor.specs.Snapshot.{Handled, so_far, with_snapshot, cached}
+use Rattle.caf_actor.specs.Eligibility.{is_eligible, with_caches, next_envelope}
 use Rattle.caf_actor.specs.Sending.{post, posting}
 use Rattle.caf_actor.specs.Handling.{handle_one}
 use Rattle.caf_actor.specs.Drain.{greatest_stamp, stamp_due, with_batch, drain_for, batch_of}
-use Rattle.caf_actor.proofs.KeptLemmas.{on_one}
+use Rattle.caf_actor.proofs.KeptLemmas.{Keeps, KeepsToo, on_one}
 use Rattle.caf_actor.proofs.DrainLemmas.{drain_keeps}
 
 -- ---- what is posted
@@ -24,40 +25,61 @@ IsPostOf place stamp p = (p.envelope.sender ≡ place) × (p.envelope.stamp ≡ 
 
 -- the snapshot is of this place, with this stamp, and so is each post
 abbrev pub StandsAt : {S : Type 0} → ℕ → ℕ → Handled S → Type 0
-StandsAt place stamp t = (t.0.place ≡ place) × ((t.0.stamp ≡ stamp) × AllByRecursion (IsPostOf place stamp) t.1)
+StandsAt place stamp t = (t.snapshot.place ≡ place) × ((t.snapshot.stamp ≡ stamp) × AllByRecursion (IsPostOf place stamp) t.posts)
 
 module _ {S : Type 0} (rules : Rules S) (place stamp : ℕ) where
   one_more : (t : Handled S) (to : ℕ) (mid : Mid) (priority : Priority) (body : Plain) → StandsAt place stamp t → StandsAt place stamp (post t to mid priority body)
   one_more t to mid priority body h =
-      (h.0, (h.1.0, all_append (IsPostOf place stamp) t.1 (posting t.0 to mid priority body ∷ []) h.1.1 ((h.0, h.1.0), tt)))
+      (h.0, (h.1.0, all_append (IsPostOf place stamp) t.posts (posting t.snapshot to mid priority body ∷ []) h.1.1 ((h.0, h.1.0), tt)))
+
+  stands_keeps : Keeps rules (StandsAt place stamp)
+  stands_keeps = record {
+    on_post = one_more;
+    on_behavior = λ t i may h. h;
+    on_holds = λ t holds h. h;
+    on_issue = λ t mode tag expected h. h;
+    on_issue_within = λ t ticks mode tag expected h. h;
+    on_observers = λ t observers h. h;
+    on_unstarted = λ t unstarted h. h;
+    on_delays = λ t delays h. h;
+    on_emptied = λ t why h. h;
+  }
+
+  stands_keeps_too : KeepsToo rules (StandsAt place stamp)
+  stands_keeps_too = record {
+    on_resolved = λ t number found e h. h;
+    on_expired = λ t found e h. h;
+    on_begun = λ t h. h;
+    on_clock = λ t h. h;
+  }
 
   handled_stands : (t : Handled S) (e : Taken) → StandsAt place stamp t → StandsAt place stamp (handle_one rules t e)
-  handled_stands = on_one rules (StandsAt place stamp) one_more (λ t i h. h) (λ t holds h. h) (λ t pending h. h) (λ t observers h. h) (λ t why h. h)
+  handled_stands = on_one rules (StandsAt place stamp) stands_keeps stands_keeps_too
 
   -- an envelope that leaves the lists changes neither place nor stamp
-  next_stands : (t : Handled S) (p : Taken × Snapshot S) → next_envelope rules t.0 ≡ Some p → StandsAt place stamp t → StandsAt place stamp (p.1, t.1)
-  next_stands t p q h = go (next_of (is_eligible rules t.0) t.0.caches) q
+  next_stands : (t : Handled S) (p : Taken × Snapshot S) → next_envelope rules t.snapshot ≡ Some p → StandsAt place stamp t → StandsAt place stamp (with_snapshot t p.1)
+  next_stands t p q h = go (next_of (is_eligible rules t.snapshot) t.snapshot.caches) q
     where
-      go : (r : Option (Taken × CachedLists)) → with_caches t.0 r ≡ Some p → StandsAt place stamp (p.1, t.1)
+      go : (r : Option (Taken × CachedLists)) → with_caches t.snapshot r ≡ Some p → StandsAt place stamp (with_snapshot t p.1)
       go None e = cc
       go (Some r) e =
-          let same : (r.0, record t.0 { caches = r.1 }) ≡ p = cc in
-          subst (λ (u : Taken × Snapshot S). StandsAt place stamp (u.1, t.1)) same h
+          let same : (r.0, record t.snapshot { caches = r.1 }) ≡ p = cc in
+          subst (λ (u : Taken × Snapshot S). StandsAt place stamp (with_snapshot t u.1)) same h
 
   drained_stands : (n : ℕ) (t : Handled S) → StandsAt place stamp t → StandsAt place stamp (drain_for rules n t)
-  drained_stands = drain_keeps rules (StandsAt place stamp) (λ t p q h. handled_stands (p.1, t.1) p.0 (next_stands t p q h))
+  drained_stands = drain_keeps rules (StandsAt place stamp) (λ t p q h. handled_stands (with_snapshot t p.1) p.0 (next_stands t p q h))
 
 module _ {S : Type 0} (rules : Rules S) where
   batch_stands : (s : Snapshot S) (batch : List Taken) → StandsAt s.place (stamp_due s.stamp batch) (batch_of rules s batch)
-  batch_stands s batch = drained_stands rules s.place (stamp_due s.stamp batch) (cached (with_batch s batch)) (with_batch s batch, []) (refl, (refl, tt))
+  batch_stands s batch = drained_stands rules s.place (stamp_due s.stamp batch) (cached (with_batch s batch)) (so_far (with_batch s batch) []) (refl, (refl, tt))
 
-  pub place_stays : (s : Snapshot S) (batch : List Taken) → (batch_of rules s batch).0.place ≡ s.place
+  pub place_stays : (s : Snapshot S) (batch : List Taken) → (batch_of rules s batch).snapshot.place ≡ s.place
   place_stays s batch = (batch_stands s batch).0
 
-  pub stamp_after : (s : Snapshot S) (batch : List Taken) → (batch_of rules s batch).0.stamp ≡ stamp_due s.stamp batch
+  pub stamp_after : (s : Snapshot S) (batch : List Taken) → (batch_of rules s batch).snapshot.stamp ≡ stamp_due s.stamp batch
   stamp_after s batch = (batch_stands s batch).1.0
 
-  pub posts_of_place : (s : Snapshot S) (batch : List Taken) → AllByRecursion (IsPostOf s.place (stamp_due s.stamp batch)) (batch_of rules s batch).1
+  pub posts_of_place : (s : Snapshot S) (batch : List Taken) → AllByRecursion (IsPostOf s.place (stamp_due s.stamp batch)) (batch_of rules s batch).posts
   posts_of_place s batch = (batch_stands s batch).1.1
 
 -- ---- what is taken

@@ -7,7 +7,6 @@ use Rattle.caf_message.specs.Envelope.{EnvelopeFits}
 use Rattle.caf_mailbox.specs.Caches.{CachedLists}
 use Rattle.caf_actor.specs.declared.snapshot.Snapshot.{Snapshot}
 use Rattle.caf_actor.specs.declared.journal.TakenBatch.{TakenBatch}
-use Rattle.caf_actor.specs.Snapshot.{opening}
 
 pub record ActorState (S : Type 0) : Type 0 where
   pub snapshot : Snapshot S
@@ -17,8 +16,9 @@ pub record ActorState (S : Type 0) : Type 0 where
   -- memory was wanted in a batch
   pub is_broken : Bool
 
-abbrev pub new_actor : {S : Type 0} → ℕ → S → ℕ → ActorState S
-new_actor place behavior stamp = record { snapshot = opening place behavior stamp; journal = []; handled = 0; is_broken = false }
+-- nothing was taken yet
+abbrev pub untried : {S : Type 0} → Snapshot S → ActorState S
+untried s = record { snapshot = s; journal = []; handled = 0; is_broken = false }
 
 abbrev pub add_handled : ℕ → ℕ → ℕ
 add_handled handled more = min (handled + more) 18446744073709551615

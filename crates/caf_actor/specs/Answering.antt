@@ -1,15 +1,16 @@
 -- How content is answered.
-use Rattle.std.specs.Prelude.{ℕ, nat_lt, Bool, if◌then◌else◌, List}
+use Rattle.std.specs.Prelude.{ℕ, nat_lt, Bool, true, false, if◌then◌else◌, List, [], Option, Some, None}
 use Rattle.caf_types.specs.declared.sec.Sec.{Sec}
+use Rattle.caf_steps.specs.declared.reference.Reference.{Reference}
 use Rattle.caf_message.specs.declared.envelope.Taken.{Taken}
 use Rattle.caf_message.specs.declared.envelope.Plain.TheVariants as «plain»
 use Rattle.caf_response.specs.Promised.{Promised}
 use Rattle.caf_response.specs.Promise.{PlainHandoff, handoff_of}
 use Rattle.caf_response.specs.Holds.{with_hold}
-use Rattle.caf_actor.specs.declared.input.Origin.{Origin}
+use Rattle.caf_actor.specs.declared.origin.Origin.{Origin}
 use Rattle.caf_actor.specs.declared.snapshot.Snapshot.{Snapshot}
 use Rattle.caf_actor.specs.PlainReaction.{PlainAnswer, Value, Error, Delegate, Hold, Nothing}
-use Rattle.caf_actor.specs.Snapshot.{Handled}
+use Rattle.caf_actor.specs.Snapshot.{Handled, with_snapshot}
 use Rattle.caf_actor.specs.Sending.{post, tell, reply}
 
 abbrev pub origin_of : Taken → Origin
@@ -28,6 +29,16 @@ refuse t origin sec = if is_asked origin then reply t (promised_to origin) («pl
 
 -- ---- the answer of a behaviour
 
+-- the content goes on to another place
+abbrev pub is_delegation : PlainAnswer → Bool
+is_delegation (Delegate to) = true
+is_delegation _ = false
+
+-- the content of a reference that was kept for a delegation
+abbrev pub kept_content : Option Reference → List ℕ
+kept_content None = []
+kept_content (Some r) = r.content
+
 abbrev pub send_handoff : {S : Type 0} → Handled S → PlainHandoff → Handled S
 send_handoff t h = post t h.to h.mid h.priority («plain».Content h.content)
 
@@ -39,7 +50,7 @@ abbrev pub answer_request : {S : Type 0} → Handled S → Promised → List ℕ
 answer_request t p words (Value value) = reply t p («plain».Content value)
 answer_request t p words (Error sec) = reply t p («plain».Failure sec)
 answer_request t p words (Delegate to) = send_handoff t (handoff_of p to words)
-answer_request t p words Hold = (with_held t.0 p, t.1)
+answer_request t p words Hold = with_snapshot t (with_held t.snapshot p)
 answer_request t p words Nothing = t
 
 -- content that is no request: a delegation sends it on, and any other answer is dropped

@@ -4,7 +4,8 @@ use Rattle.caf_message.specs.declared.envelope.Taken.{Taken}
 use Rattle.caf_mailbox.specs.Caches.{filed}
 use Rattle.caf_actor.specs.declared.snapshot.Snapshot.{Snapshot}
 use Rattle.caf_actor.specs.Rules.{Rules}
-use Rattle.caf_actor.specs.Snapshot.{Handled, cached, next_envelope}
+use Rattle.caf_actor.specs.Snapshot.{Handled, so_far, with_snapshot, cached}
+use Rattle.caf_actor.specs.Eligibility.{next_envelope}
 use Rattle.caf_actor.specs.Handling.{handle_one}
 
 -- ---- the drain
@@ -12,16 +13,16 @@ use Rattle.caf_actor.specs.Handling.{handle_one}
 -- the next envelope, if there is one, and on from there
 abbrev pub turn : {S : Type 0} → Rules S → (Handled S → Handled S) → Handled S → Option (Taken × Snapshot S) → Handled S
 turn rules go t None = t
-turn rules go t (Some p) = go (handle_one rules (p.1, t.1) p.0)
+turn rules go t (Some p) = go (handle_one rules (with_snapshot t p.1) p.0)
 
 -- at most so many envelopes, one after the other, until none is eligible
 abbrev pub drain_for : {S : Type 0} → Rules S → ℕ → Handled S → Handled S
 drain_for rules zero t = t
-drain_for rules (suc n) t = turn rules (drain_for rules n) t (next_envelope rules t.0)
+drain_for rules (suc n) t = turn rules (drain_for rules n) t (next_envelope rules t.snapshot)
 
 -- each turn takes one envelope out of the lists and puts none in, so as many turns as are cached do
 abbrev pub drain : {S : Type 0} → Rules S → Handled S → Handled S
-drain rules t = drain_for rules (cached t.0) t
+drain rules t = drain_for rules (cached t.snapshot) t
 
 -- ---- a batch
 
@@ -38,8 +39,8 @@ abbrev pub with_batch : {S : Type 0} → Snapshot S → List Taken → Snapshot 
 with_batch s batch = record s { stamp = stamp_due s.stamp batch; caches = filed s.caches batch }
 
 abbrev pub batch_of : {S : Type 0} → Rules S → Snapshot S → List Taken → Handled S
-batch_of rules s batch = drain rules (with_batch s batch, [])
+batch_of rules s batch = drain rules (so_far (with_batch s batch) [])
 
 -- how many envelopes left the lists in a batch
 abbrev pub left_in_batch : {S : Type 0} → Rules S → Snapshot S → List Taken → ℕ
-left_in_batch rules s batch = cached (with_batch s batch) - cached (batch_of rules s batch).0
+left_in_batch rules s batch = cached (with_batch s batch) - cached (batch_of rules s batch).snapshot

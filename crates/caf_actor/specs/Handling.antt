@@ -1,5 +1,5 @@
 -- What an actor does with one envelope that has left its list.
-use Rattle.std.specs.Prelude.{ℕ, ◌==◌, bytes_eq, if◌then◌else◌, List, Option, Some, None}
+use Rattle.std.specs.Prelude.{ℕ, ◌==◌, bytes_eq, true, if◌then◌else◌, List, Option, Some, None}
 use Rattle.caf_types.specs.declared.notice.Notice.{Notice}
 use Rattle.caf_types.specs.declared.notice.Notice.TheVariants as notice
 use Rattle.caf_types.specs.declared.reason.Reason.{Reason}
@@ -14,35 +14,21 @@ use Rattle.caf_message.specs.Content.{ids_in}
 use Rattle.caf_response.specs.declared.pending.Waiting.{Waiting}
 use Rattle.caf_response.specs.Pending.{WaitingRequests, resolved}
 use Rattle.caf_observe.specs.Observers.{with_link, without_link, with_monitor, without_monitor}
-use Rattle.caf_actor.specs.declared.input.Origin.{Origin}
+use Rattle.caf_actor.specs.declared.origin.Origin.{Origin}
 use Rattle.caf_actor.specs.PlainInput.{PlainInput, Start, Stop, Content, Response, Failed, Down}
 use Rattle.caf_actor.specs.Rules.{Rules, is_input}
-use Rattle.caf_actor.specs.Snapshot.{Handled}
-use Rattle.caf_actor.specs.Sending.{send_outputs}
-use Rattle.caf_actor.specs.Answering.{origin_of, refuse, answer}
-use Rattle.caf_actor.specs.Quitting.{quit_with, quit_where, handle_shell}
-
--- ---- reactions: outputs, then the answer, then what quitting causes
-
--- the behaviour takes an input, and its outputs are sent
-abbrev pub react : {S : Type 0} → Rules S → Handled S → PlainInput → Handled S
-react rules t i = send_outputs (record t.0 { behavior = rules.next t.0.behavior i }, t.1) (rules.reaction t.0.behavior i).outputs
-
--- an input that is no content; its answer is dropped
-abbrev pub give : {S : Type 0} → Rules S → Handled S → PlainInput → Handled S
-give rules t i = quit_where (react rules t i) (rules.reaction t.0.behavior i).quit
-
-abbrev pub give_content : {S : Type 0} → Rules S → Handled S → Origin → List ℕ → Handled S
-give_content rules t origin words =
-    let i = Content origin words in
-    quit_where (answer (react rules t i) origin words (rules.reaction t.0.behavior i).answer) (rules.reaction t.0.behavior i).quit
+use Rattle.caf_actor.specs.Snapshot.{Handled, with_snapshot}
+use Rattle.caf_actor.specs.Answering.{origin_of, refuse}
+use Rattle.caf_actor.specs.Quitting.{quit_with, handle_shell}
+use Rattle.caf_actor.specs.Reacting.{give, give_content}
+use Rattle.caf_actor.specs.Ticking.{handle_tick}
 
 -- ---- the content rule
 
 -- content that is no input of the interface: a request is answered, and other content is dropped
 abbrev pub handle_content : {S : Type 0} → Rules S → Handled S → Origin → List ℕ → Handled S
 handle_content rules t origin words =
-    if is_input (rules.interface t.0.behavior) (ids_in words) then give_content rules t origin words else refuse t origin UnexpectedMessage
+    if is_input (rules.interface t.snapshot.behavior) (ids_in words) then give_content rules t origin words else refuse t origin UnexpectedMessage
 
 -- ---- the response rule
 
@@ -56,10 +42,10 @@ failure_input w sec = Failed w.tag sec
 -- the request no longer waits, and the behaviour is told; a response that isn't waited for is dropped
 abbrev pub resolve_with : {S : Type 0} → Rules S → Handled S → (Waiting → PlainInput) → Option (Waiting × WaitingRequests) → Handled S
 resolve_with rules t input None = t
-resolve_with rules t input (Some found) = give rules (record t.0 { pending = found.1 }, t.1) (input found.0)
+resolve_with rules t input (Some found) = give rules (with_snapshot t (record t.snapshot { pending = found.1 })) (input found.0)
 
 abbrev pub handle_response : {S : Type 0} → Rules S → Handled S → ℕ → (Waiting → PlainInput) → Handled S
-handle_response rules t number input = resolve_with rules t input (resolved t.0.pending number)
+handle_response rules t number input = resolve_with rules t input (resolved t.snapshot.pending number)
 
 -- ---- notices
 
@@ -73,17 +59,30 @@ leave_for t reason.Failed = quit_with t reason.Failed
 -- its place leaves the links; place 0 drops exit notices
 abbrev pub handle_exit : {S : Type 0} → Handled S → ℕ → Reason → Handled S
 handle_exit t from why =
-    if t.0.place == 0 then t else leave_for (record t.0 { observers = without_link t.0.observers from }, t.1) why
+    if t.snapshot.place == 0 then t else leave_for (with_snapshot t (record t.snapshot { observers = without_link t.snapshot.observers from })) why
+
+-- nothing else
+abbrev pub begin : {S : Type 0} → Handled S → Handled S
+begin t = with_snapshot t (record t.snapshot { has_begun = true })
+
+-- its handling ends without a post and without a reaction
+abbrev pub TakesNoMemory : Notice → Type 0
+TakesNoMemory (notice.Unlink from) = Unit {0}
+TakesNoMemory (notice.Unwatch from) = Unit {0}
+TakesNoMemory (notice.Begin from) = Unit {0}
+TakesNoMemory _ = ⊥
 
 abbrev pub handle_notice : {S : Type 0} → Rules S → Handled S → Notice → Handled S
 handle_notice rules t notice.Start = give rules t Start
 handle_notice rules t notice.Stop = give rules t Stop
 handle_notice rules t (notice.Exit from why) = handle_exit t from why
-handle_notice rules t (notice.Link from) = (record t.0 { observers = with_link t.0.observers from }, t.1)
-handle_notice rules t (notice.Unlink from) = (record t.0 { observers = without_link t.0.observers from }, t.1)
-handle_notice rules t (notice.Watch from) = (record t.0 { observers = with_monitor t.0.observers from }, t.1)
-handle_notice rules t (notice.Unwatch from) = (record t.0 { observers = without_monitor t.0.observers from }, t.1)
+handle_notice rules t (notice.Link from) = (with_snapshot t (record t.snapshot { observers = with_link t.snapshot.observers from }))
+handle_notice rules t (notice.Unlink from) = (with_snapshot t (record t.snapshot { observers = without_link t.snapshot.observers from }))
+handle_notice rules t (notice.Watch from) = (with_snapshot t (record t.snapshot { observers = with_monitor t.snapshot.observers from }))
+handle_notice rules t (notice.Unwatch from) = (with_snapshot t (record t.snapshot { observers = without_monitor t.snapshot.observers from }))
 handle_notice rules t (notice.Down from why) = give rules t (Down from why)
+handle_notice rules t (notice.Begin from) = begin t
+handle_notice rules t (notice.Tick from) = handle_tick rules t
 
 -- ---- one envelope
 
@@ -98,4 +97,4 @@ handle_where rules t None origin body = handle_body rules t origin body
 handle_where rules t (Some why) origin body = handle_shell t why origin body
 
 abbrev pub handle_one : {S : Type 0} → Rules S → Handled S → Taken → Handled S
-handle_one rules t e = handle_where rules t t.0.quit (origin_of e) e.body
+handle_one rules t e = handle_where rules t t.snapshot.quit (origin_of e) e.body

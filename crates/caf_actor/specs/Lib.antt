@@ -5,10 +5,14 @@ pub mod PlainPost
 pub mod PlainForms
 pub mod Rules
 pub mod Numbers
+pub mod Clock
 pub mod Snapshot
+pub mod Eligibility
 pub mod Sending
 pub mod Answering
 pub mod Quitting
+pub mod Reacting
+pub mod Ticking
 pub mod Handling
 pub mod Drain
 pub mod Actor
@@ -16,4 +20,5 @@ pub mod Sharing
 pub mod Record
 pub mod Run
 pub mod Merge
+pub mod Resolutions
 pub mod Carriers

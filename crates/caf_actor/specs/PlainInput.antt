@@ -2,7 +2,7 @@
 use Rattle.std.specs.Prelude.{ℕ, List, Option, Some, None}
 use Rattle.caf_types.specs.declared.sec.Sec.{Sec}
 use Rattle.caf_types.specs.declared.reason.Reason.{Reason}
-use Rattle.caf_actor.specs.declared.input.Origin.{Origin}
+use Rattle.caf_actor.specs.declared.origin.Origin.{Origin}
 
 pub data PlainInput : Type 0 where
   Start : PlainInput
@@ -11,6 +11,7 @@ pub data PlainInput : Type 0 where
   Response : ℕ → List ℕ → PlainInput
   Failed : ℕ → Sec → PlainInput
   Down : ℕ → Reason → PlainInput
+  Tick : PlainInput
 
 -- the content in it, if it has one
 abbrev pub content_given : PlainInput → Option (List ℕ)

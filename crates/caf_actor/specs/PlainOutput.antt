@@ -19,3 +19,10 @@ pub data PlainOutput : Type 0 where
   -- requester, number, and what is answered
   Deliver : ℕ → ℕ → List ℕ → PlainOutput
   Break : ℕ → ℕ → Sec → PlainOutput
+  -- the place of a child that is to begin
+  Spawn : ℕ → PlainOutput
+  Tick : ℕ → PlainOutput
+  -- after how many ticks, to whom, how urgent, and the content
+  Delay : ℕ → ℕ → Priority → List ℕ → PlainOutput
+  -- after how many ticks it is too late, and then as a request
+  Within : ℕ → ℕ → Priority → Mode → ℕ → List TypeId → List ℕ → PlainOutput

@@ -1,12 +1,10 @@
 -- Records of what places took: which are legal, which are at rest, which are complete.
 use Rattle.std.specs.Prelude.{◌≡◌, ◌≢◌, ℕ, zero, suc, ◌+◌, ◌-◌, ◌≤◌, ◌<◌, ◌==◌, ◌&&◌, max, not, nat_lt, Bool, true, false, if◌then◌else◌, List, [], ◌∷◌, ◌++◌, length, drop, filter, slice_get, Contains, Option, Some, None, is_some, option_map}
 use Rattle.std.specs.List.{AllByRecursion, list_any}
-use Rattle.caf_types.specs.declared.notice.Notice.TheVariants as notice
 use Rattle.caf_types.specs.declared.reason.Reason.TheVariants.{Kill}
 use Rattle.caf_message.specs.declared.envelope.Taken.{Taken}
-use Rattle.caf_message.specs.declared.envelope.Plain.{Plain}
-use Rattle.caf_message.specs.declared.envelope.Plain.TheVariants as «plain»
-use Rattle.caf_message.specs.Envelope.{outside, start_envelope, stop_envelope}
+use Rattle.caf_message.specs.Envelope.{outside, start_envelope}
+use Rattle.caf_message.specs.Outside.{outside_envelope, is_rest_notice, holds_stop}
 use Rattle.caf_mailbox.specs.Caches.{has_eligible}
 use Rattle.caf_actor.specs.declared.journal.TakenBatch.{TakenBatch}
 use Rattle.caf_actor.specs.declared.snapshot.Snapshot.{Snapshot}
@@ -16,8 +14,9 @@ use Rattle.caf_actor.specs.PlainOutput.{PlainOutput}
 use Rattle.caf_actor.specs.PlainOutput as output
 use Rattle.caf_actor.specs.PlainReaction.{PlainReaction}
 use Rattle.caf_actor.specs.PlainPost.{PlainPost}
-use Rattle.caf_actor.specs.Rules.{Rules, MayBeGiven, output_targets, answer_targets}
-use Rattle.caf_actor.specs.Snapshot.{is_eligible, cached}
+use Rattle.caf_actor.specs.Rules.{Rules, fed, MayBeFed, output_targets, answer_targets}
+use Rattle.caf_actor.specs.Snapshot.{Handled, cached}
+use Rattle.caf_actor.specs.Eligibility.{is_eligible}
 use Rattle.caf_actor.specs.Drain.{batch_of, stamp_due}
 
 -- ---- one actor, as records see it
@@ -34,10 +33,13 @@ pub record Machine (S : Type 0) : Type 0 where
   -- how many envelopes are cached
   pub cached_in : S → ℕ
 
+abbrev pub play_of : {S : Type 0} → Handled S → Snapshot S × List PlainPost
+play_of t = (t.snapshot, t.posts)
+
 -- the machine of a behaviour
 abbrev pub machine_of : {S : Type 0} → Rules S → Machine (Snapshot S)
 machine_of rules = record {
-  play = batch_of rules;
+  play = λ s batch. play_of (batch_of rules s batch);
   due = λ s batch. stamp_due s.stamp batch;
   is_idle = λ s. not (has_eligible (is_eligible rules s) s.caches);
   stamp_of = λ s. s.stamp;
@@ -99,7 +101,7 @@ pub record IsStill {S : Type 0} (m : Machine S) (places : ℕ) (at : ℕ → S) 
 
 -- ---- records
 
--- where each place began, what it took, and the number of place 0's batch that holds Stop
+-- where each place stood at first, what it took, and the number of place 0's batch that holds Stop
 pub record Kept (S : Type 0) : Type 0 where
   pub places : ℕ
   pub start : ℕ → S
@@ -119,27 +121,27 @@ before k stamp = record {
   cut = None;
 }
 
--- ---- Start and Stop
+-- ---- the outside
 
--- the batch that the cut names
-abbrev pub batch_at : List TakenBatch → Option ℕ → Option TakenBatch
-batch_at bs None = None
-batch_at bs (Some n) = slice_get bs n
+abbrev pub when : Bool → List Taken → List Taken
+when true xs = xs
+when false xs = []
 
-abbrev pub cut_batch : {S : Type 0} → Kept S → Option TakenBatch
-cut_batch k = batch_at (k.journal 0) k.cut
+-- the batch holds a tick or Stop of the outside
+abbrev pub holds_notice : TakenBatch → Bool
+holds_notice b = list_any is_rest_notice b.taken
 
--- the Stop that a batch of this stamp takes: the greatest stamp that there was before
-abbrev pub stop_before : {S : Type 0} → Machine S → Kept S → ℕ → Taken
-stop_before m k stamp = stop_envelope (latest m k.places (ends m (before k stamp)))
+-- those of the batches that do
+abbrev pub heard : List TakenBatch → List TakenBatch
+heard bs = filter holds_notice bs
 
-abbrev pub stop_at : {S : Type 0} → Machine S → Kept S → Option TakenBatch → List Taken
-stop_at m k None = []
-stop_at m k (Some b) = stop_before m k b.stamp ∷ []
+-- to a place 0 that took these batches the outside has sent Start, and the ticks and Stop that are taken
+abbrev pub told : List TakenBatch → List Taken
+told bs = start_envelope ∷ joined (heard bs)
 
--- to place 0 the outside sends Start, and then Stop, and to other places nothing
-abbrev pub outside_sends : {S : Type 0} → Machine S → Kept S → ℕ → ℕ → List Taken
-outside_sends m k a b = if (outside == a) && (0 == b) then start_envelope ∷ stop_at m k (cut_batch k) else []
+-- to other places it sends nothing
+abbrev pub outside_sends : {S : Type 0} → Kept S → ℕ → ℕ → List Taken
+outside_sends k a b = when ((outside == a) && (0 == b)) (told (k.journal 0))
 
 -- ---- each pair of a sender and a receiver
 
@@ -147,7 +149,7 @@ abbrev pub taken_by : {S : Type 0} → Kept S → ℕ → ℕ → List Taken
 taken_by k a b = from_place a (joined (k.journal b))
 
 abbrev pub sent_by : {S : Type 0} → Machine S → Kept S → ℕ → ℕ → List Taken
-sent_by m k a b = outside_sends m k a b ++ sent m (k.start a) (k.journal a) b
+sent_by m k a b = outside_sends k a b ++ sent m (k.start a) (k.journal a) b
 
 -- what was sent and not taken
 abbrev pub untaken : {S : Type 0} → Machine S → Kept S → ℕ → ℕ → List Taken
@@ -158,28 +160,27 @@ IsAtRest m k = IsStill m k.places (ends m k) (untaken m k)
 
 -- ---- legal records
 
-abbrev pub is_stop_body : Plain → Bool
-is_stop_body («plain».System notice.Stop) = true
-is_stop_body _ = false
-
-abbrev pub holds_stop : List Taken → Bool
-holds_stop taken = list_any (λ (e : Taken). is_stop_body e.body) taken
-
 -- the number of the first batch that holds Stop
 abbrev pub cut_in : List TakenBatch → Option ℕ
 cut_in [] = None
 cut_in (b ∷ bs) = if holds_stop b.taken then Some 0 else option_map (λ n. suc n) (cut_in bs)
 
--- Stop is taken alone, after all was at rest
-pub record IsCutAt {S : Type 0} (m : Machine S) (k : Kept S) (b : TakenBatch) : Type 0 where
-  pub alone : b.taken ≡ stop_before m k b.stamp ∷ []
+-- the greatest stamp that there was before this one
+abbrev pub latest_before : {S : Type 0} → Machine S → Kept S → ℕ → ℕ
+latest_before m k stamp = latest m k.places (ends m (before k stamp))
+
+-- the batch is the outside's notice number `n`, alone, after all was at rest
+pub record IsNotice {S : Type 0} (m : Machine S) (ticks : ℕ) (k : Kept S) (n : ℕ) (b : TakenBatch) : Type 0 where
+  pub number : n ≤ ticks + 1
+  pub alone : b.taken ≡ outside_envelope ticks n (latest_before m k b.stamp) ∷ []
   pub rest : IsAtRest m (before k b.stamp)
 
-abbrev pub IsCut : {S : Type 0} → Machine S → Kept S → Option TakenBatch → Type 0
-IsCut m k None = Unit {0}
-IsCut m k (Some b) = IsCutAt m k b
+-- the batches are its notices from number `n` on
+abbrev pub AreNotices : {S : Type 0} → Machine S → ℕ → Kept S → ℕ → List TakenBatch → Type 0
+AreNotices m ticks k n [] = Unit {0}
+AreNotices m ticks k n (b ∷ bs) = IsNotice m ticks k n b × AreNotices m ticks k (n + 1) bs
 
-pub record IsLegal {S : Type 0} (m : Machine S) (k : Kept S) : Type 0 where
+pub record IsLegal {S : Type 0} (m : Machine S) (ticks : ℕ) (k : Kept S) : Type 0 where
   -- places have numbers below the outside's, and no other place took anything
   pub places : k.places ≤ outside
   pub inside : (p : ℕ) → k.places ≤ p → k.journal p ≡ []
@@ -188,12 +189,13 @@ pub record IsLegal {S : Type 0} (m : Machine S) (k : Kept S) : Type 0 where
   pub stamped : (p : ℕ) → AreStamped m (k.start p) (k.journal p)
   -- what b took from a is the first part of what a sent to b
   pub pairs : (a b : ℕ) → IsPrefix (taken_by k a b) (sent_by m k a b)
-  -- Stop stands where the cut says, and nowhere else
+  -- place 0 took the ticks and Stop in their order, each alone and at rest
+  pub notices : AreNotices m ticks k 1 (heard (k.journal 0))
+  -- Stop stands where the cut says
   pub cut : k.cut ≡ cut_in (k.journal 0)
-  pub stop : IsCut m k (cut_batch k)
 
-pub record IsComplete {S : Type 0} (m : Machine S) (k : Kept S) : Type 0 where
-  pub legal : IsLegal m k
+pub record IsComplete {S : Type 0} (m : Machine S) (ticks : ℕ) (k : Kept S) : Type 0 where
+  pub legal : IsLegal m ticks k
   pub cut : is_some k.cut ≡ true
   pub rest : IsAtRest m k
 
@@ -210,16 +212,6 @@ abbrev pub handled : {S : Type 0} → Machine S → Kept S → ℕ
 handled m k = sum_below k.places (handled_at m k)
 
 -- ---- a closer at place 0
-
--- the behaviour after these inputs
-abbrev pub fed : {S : Type 0} → Rules S → S → List PlainInput → S
-fed rules s [] = s
-fed rules s (i ∷ is) = fed rules (rules.next s i) is
-
--- it may be given each of them
-abbrev pub MayBeFed : {S : Type 0} → Rules S → S → List PlainInput → Type 0
-MayBeFed rules s [] = Unit {0}
-MayBeFed rules s (i ∷ is) = MayBeGiven rules s i × MayBeFed rules (rules.next s i) is
 
 -- what comes after Stop: responses, failures and down notices
 abbrev pub ComesLate : PlainInput → Type 0
@@ -240,7 +232,7 @@ pub record SendsNothingTo (place : ℕ) (r : PlainReaction) : Type 0 where
 -- whatever place 0 was given before, and with the behaviours that the places start with
 pub record IsCloser {S : Type 0} (rules : Rules S) (places : ℕ) (start : ℕ → S) : Type 0 where
   pub interface : rules.interface (start 0) ≡ []
-  pub unnamed : (p : ℕ) → p < places → Contains (rules.peers (start p)) 0 → ⊥
+  pub unnamed : (p : ℕ) → p < places → Contains (rules.peers (start p) ++ rules.reserve (start p)) 0 → ⊥
   pub alone : (is : List PlainInput) (i : PlainInput) → MayBeFed rules (start 0) (is ++ i ∷ [])
       → SendsNothingTo 0 (rules.reaction (fed rules (start 0) is) i)
   pub stays : (is : List PlainInput) (i : PlainInput) → MayBeFed rules (start 0) (is ++ i ∷ [])

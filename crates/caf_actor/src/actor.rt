@@ -7,14 +7,15 @@ ghost use Rattle.caf_message.specs.Entries.{HasEntries};
 ghost use Rattle.caf_message.specs.Envelope.{plain_envelope, EnvelopeFits};
 ghost use Rattle.caf_message.specs.declared.envelope.Taken.{Taken};
 ghost use Rattle.caf_actor.specs.PlainForms.{plain_post};
-ghost use Rattle.caf_actor.specs.Actor.{new_actor, add_handled, CachesFit};
+ghost use Rattle.caf_actor.specs.Actor.{untried, add_handled, CachesFit};
+ghost use Rattle.caf_actor.specs.Snapshot.{opening, vacant};
 ghost use Rattle.caf_actor.specs.Drain.{batch_of, stamp_due, left_in_batch};
 
-use crate::draining::with_copies;
+use crate::journal::with_copies;
 use crate::post::Posts;
 use crate::{Behavior, Journal, Post, Snapshot, TakenBatch};
 use caf_message::Batch;
-use caf_types::{Memory, Reason, Seq, TypeTable};
+use caf_types::{LATEST_STAMP, Memory, PLACES, Reason, Seq, TypeTable};
 use std::alloc::Global;
 use std::marker::Model;
 
@@ -38,17 +39,36 @@ impl<B: Behavior> Model for Actor<B> {
 impl<B: Behavior> Actor<B> {
     /// An actor at that place that has taken nothing yet.
     pub fn new(alloc: Global, place: u32, behavior: B, stamp: u64) -> Result<Actor<B>, Memory>
-        requires place { place < 256 }
+        requires place { place < PLACES }
         requires own { place ≡ B.rules.place behavior }
-        requires stamp { stamp ≤ 2 ^ 40 }
-        ensures { IfOk result (λ actor. actor ≡ new_actor place behavior stamp) }
+        requires stamp { stamp ≤ LATEST_STAMP }
+        ensures { IfOk result (λ actor. actor ≡ untried (opening B.rules place behavior stamp)) }
     {
-        Ok(Actor {
-            snapshot: Snapshot::new(alloc, place, behavior, stamp),
+        let snapshot = Snapshot::new(alloc, true, place, behavior, stamp)?;
+        Ok(Actor::untried(alloc, snapshot))
+    }
+
+    /// An actor at that place that nobody has started yet: a child of another one. Until it begins it
+    /// keeps all but system notices.
+    pub fn vacant(alloc: Global, place: u32, behavior: B, stamp: u64) -> Result<Actor<B>, Memory>
+        requires place { place < PLACES }
+        requires own { place ≡ B.rules.place behavior }
+        requires stamp { stamp ≤ LATEST_STAMP }
+        ensures { IfOk result (λ actor. actor ≡ untried (vacant B.rules place behavior stamp)) }
+    {
+        let snapshot = Snapshot::new(alloc, false, place, behavior, stamp)?;
+        Ok(Actor::untried(alloc, snapshot))
+    }
+
+    fn untried(alloc: Global, snapshot: Snapshot<B>) -> Actor<B>
+        ensures { result ≡ untried snapshot }
+    {
+        Actor {
+            snapshot,
             journal: Seq::new(alloc),
             handled: 0,
             is_broken: false,
-        })
+        }
     }
 
     /// Takes a batch: it gets its stamp, goes into the lists and into the journal, and the next
@@ -63,13 +83,13 @@ impl<B: Behavior> Actor<B> {
         batch: Batch,
     ) -> Result<Seq<Post>, Memory>
         requires filled { batch ≢ [] }
-        requires stamp { self.old.snapshot.stamp < 2 ^ 40 }
-        requires stamps { AllByRecursion (λ (e : Taken). e.stamp < 2 ^ 40) (map plain_envelope batch) }
+        requires stamp { self.old.snapshot.stamp < LATEST_STAMP }
+        requires stamps { AllByRecursion (λ (e : Taken). e.stamp < LATEST_STAMP) (map plain_envelope batch) }
         requires entries { HasEntries (seen table.now) B.entries }
         requires fits { AllByRecursion (EnvelopeFits (shape_at (seen table.now))) (map plain_envelope batch) }
         requires lists_fit { self.old.is_broken ≡ false → CachesFit (shape_at (seen table.now)) self.old.snapshot.caches }
-        ensures posts { IfOk result (λ posts. map plain_post posts ≡ (batch_of B.rules self.old.snapshot (map plain_envelope batch)).1) }
-        ensures snapshot { OnOk result (self.new.snapshot ≡ (batch_of B.rules self.old.snapshot (map plain_envelope batch)).0) }
+        ensures posts { IfOk result (λ posts. map plain_post posts ≡ (batch_of B.rules self.old.snapshot (map plain_envelope batch)).posts) }
+        ensures snapshot { OnOk result (self.new.snapshot ≡ (batch_of B.rules self.old.snapshot (map plain_envelope batch)).snapshot) }
         ensures journal { OnOk result (self.new.journal ≡ self.old.journal ++ record { stamp = stamp_due self.old.snapshot.stamp (map plain_envelope batch); taken = map plain_envelope batch } ∷ []) }
         ensures handled { OnOk result (self.new.handled ≡ add_handled self.old.handled (left_in_batch B.rules self.old.snapshot (map plain_envelope batch))) }
         ensures fit { (shape_of : ℕ → Option ShapeTree) → CachesFit shape_of self.old.snapshot.caches → AllByRecursion (EnvelopeFits shape_of) (map plain_envelope batch)

@@ -1,8 +1,9 @@
 //! How content is answered.
-ghost use Rattle.std.specs.Prelude.{◌≡◌, OnOk};
+ghost use Rattle.std.specs.Prelude.{◌≡◌, true, false, OnOk, IsOk, IsSome};
 ghost use Rattle.caf_response.specs.Promise.{plain_handoff};
 ghost use Rattle.caf_actor.specs.PlainForms.{plain_answer};
-ghost use Rattle.caf_actor.specs.Answering.{promised_to};
+ghost use Rattle.caf_actor.specs.PlainForms.{reached};
+ghost use Rattle.caf_actor.specs.Answering.{promised_to, is_delegation, kept_content};
 ghost use Rattle.caf_actor.specs.Answering as answering;
 
 use crate::post::Posts;
@@ -10,22 +11,6 @@ use crate::{Answer, Origin, Snapshot};
 use caf_message::{Body, Message};
 use caf_response::{Handoff, Promise};
 use caf_types::{Memory, Sec};
-
-impl Origin {
-    /// Whether content of this origin is a request.
-    fn is_asked(&self) -> bool
-        ensures { result ≡ answering.is_asked self.now }
-    {
-        self.mid.number > 0
-    }
-
-    /// The promise to answer the request.
-    fn promise(&self) -> Promise
-        ensures { result ≡ promised_to self.now }
-    {
-        Promise::of(self.mid, self.priority)
-    }
-}
 
 impl<B> Snapshot<B> {
     /// Answers a request by an error. Content that is no request is dropped.
@@ -35,7 +20,8 @@ impl<B> Snapshot<B> {
         origin: Origin,
         sec: Sec,
     ) -> Result<(), Memory>
-        ensures { OnOk result (answering.refuse (self.old, posts.old) origin sec ≡ (self.new, posts.new)) }
+        ensures refused { OnOk result (answering.refuse (reached self.old posts.old) origin sec ≡ reached self.new posts.new) }
+        ensures dropped { answering.is_asked origin ≡ false → IsOk result }
     {
         if origin.is_asked() {
             return self.send_reply(posts, origin.promise().fail(sec));
@@ -43,38 +29,44 @@ impl<B> Snapshot<B> {
         Ok(())
     }
 
-    /// Does what the behaviour answered to content.
+    /// Does what the behaviour answered to content. A second reference to the content is there where
+    /// it is delegated.
     pub(crate) fn answer(
         &mut self,
         posts: &mut Posts,
         origin: Origin,
-        content: Message,
+        second: Option<Message>,
         answer: Answer,
     ) -> Result<(), Memory>
-        ensures { OnOk result (answering.answer (self.old, posts.old) origin content.content (plain_answer answer) ≡ (self.new, posts.new)) }
+        requires { is_delegation (plain_answer answer) ≡ true → IsSome second }
+        ensures { OnOk result (answering.answer (reached self.old posts.old) origin (kept_content second) (plain_answer answer) ≡ reached self.new posts.new) }
     {
         if origin.is_asked() {
-            return self.answer_request(posts, origin, content, answer);
+            return self.answer_request(posts, origin, second, answer);
         }
-        self.answer_tell(posts, origin, content, answer)
+        self.answer_tell(posts, origin, second, answer)
     }
 
     fn answer_request(
         &mut self,
         posts: &mut Posts,
         origin: Origin,
-        content: Message,
+        second: Option<Message>,
         answer: Answer,
     ) -> Result<(), Memory>
-        ensures { OnOk result (answering.answer_request (self.old, posts.old) (promised_to origin) content.content (plain_answer answer) ≡ (self.new, posts.new)) }
+        requires { is_delegation (plain_answer answer) ≡ true → IsSome second }
+        ensures { OnOk result (answering.answer_request (reached self.old posts.old) (promised_to origin) (kept_content second) (plain_answer answer) ≡ reached self.new posts.new) }
     {
         match answer {
             Answer::Value(value) => self.send_reply(posts, origin.promise().deliver(value)),
             Answer::Error(sec) => self.send_reply(posts, origin.promise().fail(sec)),
-            Answer::Delegate(to) => self.send_handoff(
-                posts,
-                origin.promise().delegate(to, content),
-            ),
+            Answer::Delegate(to) => match second {
+                Some(content) => {
+                    let handoff = origin.promise().delegate(to, content);
+                    self.send_handoff(posts, handoff)
+                }
+                None => unreachable!(),
+            },
             Answer::Hold => self.hold(origin.promise()),
             Answer::Nothing => Ok(()),
         }
@@ -85,20 +77,25 @@ impl<B> Snapshot<B> {
         &mut self,
         posts: &mut Posts,
         origin: Origin,
-        content: Message,
+        second: Option<Message>,
         answer: Answer,
     ) -> Result<(), Memory>
-        ensures { OnOk result (answering.answer_tell (self.old, posts.old) origin content.content (plain_answer answer) ≡ (self.new, posts.new)) }
+        requires { is_delegation (plain_answer answer) ≡ true → IsSome second }
+        ensures answered { OnOk result (answering.answer_tell (reached self.old posts.old) origin (kept_content second) (plain_answer answer) ≡ reached self.new posts.new) }
+        ensures dropped { is_delegation (plain_answer answer) ≡ false → IsOk result }
     {
         match answer {
-            Answer::Delegate(to) => self.tell(posts, to, origin.priority, content),
+            Answer::Delegate(to) => match second {
+                Some(content) => self.tell(posts, to, origin.priority, content),
+                None => unreachable!(),
+            },
             Answer::Value(_) | Answer::Error(_) | Answer::Hold | Answer::Nothing => Ok(()),
         }
     }
 
     /// Passes a request on.
     fn send_handoff(&mut self, posts: &mut Posts, handoff: Handoff) -> Result<(), Memory>
-        ensures { OnOk result (answering.send_handoff (self.old, posts.old) (plain_handoff handoff) ≡ (self.new, posts.new)) }
+        ensures { OnOk result (answering.send_handoff (reached self.old posts.old) (plain_handoff handoff) ≡ reached self.new posts.new) }
     {
         let Handoff {
             to,

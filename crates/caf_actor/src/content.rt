@@ -1,10 +1,11 @@
 //! The types of a content, and the signature that it meets.
-ghost use Rattle.std.specs.Prelude.{◌≡◌, bytes_eq};
+ghost use Rattle.std.specs.Prelude.{◌≡◌, bytes_eq, is_some, IfSome};
 ghost use Rattle.std.specs.Option.{option_copied};
 ghost use Rattle.caf_words.specs.Several.{ids_of};
 ghost use Rattle.caf_message.specs.Content.{ids_in};
-ghost use Rattle.caf_actor.specs.Rules.{signature_for};
+ghost use Rattle.caf_actor.specs.Rules.{signature_for, is_input};
 
+use crate::Behavior;
 use caf_message::Message;
 use caf_signature::{Interface, Signature};
 use caf_types::TypeId;
@@ -29,4 +30,18 @@ pub fn signature_of<'a>(interface: &'a Interface, message: &mut Message) -> Opti
         }
     }
     None
+}
+
+/// Whether the behaviour may delegate the content; None exactly where its types are no input of the
+/// interface. It takes no memory.
+pub(crate) fn passing_of<B: Behavior>(behavior: &B, message: &mut Message) -> Option<bool>
+    ensures some { is_some result ≡ is_input (B.rules.interface behavior.now) (ids_in message.old.content) }
+    ensures passes { IfSome result (λ passes. passes ≡ B.rules.delegates behavior.now (ids_in message.old.content)) }
+    ensures kept { message.new.content ≡ message.old.content }
+    ensures valid { B.is_valid behavior.now }
+{
+    match signature_of(behavior.interface(), message) {
+        Some(signature) => Some(behavior.delegates(&signature.input)),
+        None => None,
+    }
 }

@@ -3,8 +3,8 @@ ghost use Rattle.std.specs.Prelude.{◌≡◌, IfNone};
 ghost use Rattle.std.specs.Option.{option_map};
 ghost use Rattle.caf_message.specs.Envelope.{plain_envelope};
 ghost use Rattle.caf_message.specs.declared.envelope.Plain.TheVariants as «plain»;
-ghost use Rattle.caf_actor.specs.Snapshot.{is_wanted, next_envelope};
-ghost use Rattle.caf_actor.specs.Snapshot as snapshot;
+ghost use Rattle.caf_actor.specs.Eligibility.{is_wanted, next_envelope};
+ghost use Rattle.caf_actor.specs.Eligibility as eligibility;
 
 use crate::{Behavior, Snapshot, signature_of};
 use caf_mailbox::Eligible;
@@ -14,15 +14,16 @@ use caf_message::{Body, Envelope, Message};
 #[derive(Drop)]
 struct Turn<'a, B> {
     behavior: &'a B,
+    has_begun: bool,
     has_quit: bool,
     /// The number of the response that is awaited.
     awaited: Option<u64>,
 }
 
 impl<'a, B: Behavior> Eligible for Turn<'a, B> {
-    ghost use Rattle.caf_actor.specs.Snapshot.{is_eligible_when};
+    ghost use Rattle.caf_actor.specs.Eligibility.{is_eligible_when};
 
-    ghost test = { λ turn. is_eligible_when B.rules turn.behavior.now turn.has_quit turn.awaited };
+    ghost test = { λ turn. is_eligible_when B.rules turn.behavior.now turn.has_begun turn.has_quit turn.awaited };
 
     fn eligible(&self, envelope: &mut Envelope) -> bool {
         if self.has_quit {
@@ -32,9 +33,11 @@ impl<'a, B: Behavior> Eligible for Turn<'a, B> {
         let number = envelope.mid.number;
         match &mut envelope.body {
             Body::System(_) => true,
-            Body::Failure(_) => is_awaited(self.awaited, number),
+            Body::Failure(_) => self.has_begun && is_awaited(self.awaited, number),
             Body::Content(message) => {
-                if is_response {
+                if !self.has_begun {
+                    false
+                } else if is_response {
                     is_awaited(self.awaited, number)
                 } else {
                     self.awaited.is_none() && is_content_wanted(self.behavior, message)
@@ -46,7 +49,7 @@ impl<'a, B: Behavior> Eligible for Turn<'a, B> {
 
 /// Whether the response of that number may be handled: while one is awaited, it alone.
 fn is_awaited(awaited: Option<u64>, number: u64) -> bool
-    ensures { result ≡ snapshot.is_awaited awaited number }
+    ensures { result ≡ eligibility.is_awaited awaited number }
 {
     match awaited {
         Some(top) => number == top,
@@ -73,6 +76,7 @@ impl<B: Behavior> Snapshot<B> {
     {
         let turn = Turn {
             behavior: &self.behavior,
+            has_begun: self.has_begun,
             has_quit: self.quit.is_some(),
             awaited: self.pending.top(),
         };

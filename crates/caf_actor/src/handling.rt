@@ -1,5 +1,5 @@
 //! What an actor does with one envelope that has left its list.
-ghost use Rattle.std.specs.Prelude.{◌≡◌, OnOk, IfOk, true};
+ghost use Rattle.std.specs.Prelude.{◌≡◌, OnOk, IsOk, false};
 ghost use Rattle.caf_types.specs.Table.{shape_at};
 ghost use Rattle.caf_types.specs.TypeTable.{seen};
 ghost use Rattle.caf_message.specs.Content.{ids_in};
@@ -7,71 +7,21 @@ ghost use Rattle.caf_message.specs.Entries.{HasEntries};
 ghost use Rattle.caf_message.specs.Envelope.{plain_body, plain_envelope, BodyFits, EnvelopeFits};
 ghost use Rattle.caf_message.specs.Fits.{FitsTable};
 ghost use Rattle.caf_response.specs.declared.pending.Waiting.{Waiting};
-ghost use Rattle.caf_actor.specs.PlainForms.{plain_input};
-ghost use Rattle.caf_actor.specs.Rules.{MayBeGiven, InputFits, is_input};
-ghost use Rattle.caf_actor.specs.Handling.{response_input, failure_input};
+ghost use Rattle.caf_response.specs.Pending.{is_waiting};
+ghost use Rattle.caf_actor.specs.PlainForms.{reached};
+ghost use Rattle.caf_actor.specs.Answering.{is_asked};
+ghost use Rattle.caf_actor.specs.Rules.{is_input};
+ghost use Rattle.caf_actor.specs.Handling.{response_input, failure_input, TakesNoMemory};
 ghost use Rattle.caf_actor.specs.Handling as handling;
 
-use crate::content::{has_types, signature_of};
-use crate::laws::another_message;
+use crate::content::{has_types, passing_of};
 use crate::post::Posts;
-use crate::{Behavior, Input, Origin, Reaction, Snapshot};
+use crate::{Behavior, Input, Origin, Snapshot};
 use caf_message::{Body, Envelope, Message};
 use caf_types::{Memory, Notice, Reason, Sec, TypeTable};
 use std::alloc::Global;
 
 impl<B: Behavior> Snapshot<B> {
-    /// Gives the behaviour an input that is no content.
-    fn give(
-        &mut self,
-        alloc: Global,
-        table: &TypeTable,
-        posts: &mut Posts,
-        input: Input,
-    ) -> Result<(), Memory>
-        requires entries { HasEntries (seen table.now) B.entries }
-        requires fits { InputFits (shape_at (seen table.now)) (plain_input input) }
-        requires given { MayBeGiven B.rules self.old.behavior (plain_input input) }
-        ensures { OnOk result (handling.give B.rules (self.old, posts.old) (plain_input input) ≡ (self.new, posts.new)) }
-    {
-        let reaction = self.behavior.react(alloc, table, input)?;
-        let Reaction {
-            outputs: sent,
-            quit,
-            ..
-        } = reaction;
-        self.send_outputs(alloc, posts, sent)?;
-        self.quit_where(alloc, posts, quit)
-    }
-
-    /// Gives the behaviour content of its interface, and answers it.
-    fn give_content(
-        &mut self,
-        alloc: Global,
-        table: &TypeTable,
-        posts: &mut Posts,
-        origin: Origin,
-        message: Message,
-    ) -> Result<(), Memory>
-        requires entries { HasEntries (seen table.now) B.entries }
-        requires fits { FitsTable (seen table.now) message.content }
-        requires given { is_input (B.rules.interface self.old.behavior) (ids_in message.content) ≡ true }
-        ensures { OnOk result (handling.give_content B.rules (self.old, posts.old) origin message.content ≡ (self.new, posts.new)) }
-    {
-        let mut message = message;
-        let second = another_message(alloc, &mut message, true)?;
-        let input = Input::Content(origin, message);
-        let reaction = self.behavior.react(alloc, table, input)?;
-        let Reaction {
-            outputs,
-            answer,
-            quit,
-        } = reaction;
-        self.send_outputs(alloc, posts, outputs)?;
-        self.answer(posts, origin, second, answer)?;
-        self.quit_where(alloc, posts, quit)
-    }
-
     fn handle_content(
         &mut self,
         alloc: Global,
@@ -82,13 +32,14 @@ impl<B: Behavior> Snapshot<B> {
     ) -> Result<(), Memory>
         requires entries { HasEntries (seen table.now) B.entries }
         requires fits { FitsTable (seen table.now) message.content }
-        ensures { OnOk result (handling.handle_content B.rules (self.old, posts.old) origin message.content ≡ (self.new, posts.new)) }
+        ensures handled { OnOk result (handling.handle_content B.rules (reached self.old posts.old) origin message.content ≡ reached self.new posts.new) }
+        ensures dropped { is_input (B.rules.interface self.old.behavior) (ids_in message.content) ≡ false → is_asked origin ≡ false → IsOk result }
     {
         let mut message = message;
-        if signature_of(self.behavior.interface(), &mut message).is_some() {
-            return self.give_content(alloc, table, posts, origin, message);
+        match passing_of(&self.behavior, &mut message) {
+            Some(passes) => self.give_content(alloc, table, posts, origin, message, passes),
+            None => self.refuse(posts, origin, Sec::UnexpectedMessage),
         }
-        self.refuse(posts, origin, Sec::UnexpectedMessage)
     }
 
     /// A response that isn't waited for is dropped.
@@ -102,7 +53,8 @@ impl<B: Behavior> Snapshot<B> {
     ) -> Result<(), Memory>
         requires entries { HasEntries (seen table.now) B.entries }
         requires fits { FitsTable (seen table.now) message.content }
-        ensures { OnOk result (handling.handle_response B.rules (self.old, posts.old) number (λ (w : Waiting). response_input w message.content) ≡ (self.new, posts.new)) }
+        ensures handled { OnOk result (handling.handle_response B.rules (reached self.old posts.old) number (λ (w : Waiting). response_input w message.content) ≡ reached self.new posts.new) }
+        ensures dropped { is_waiting self.old.pending number ≡ false → IsOk result }
     {
         let mut message = message;
         match self.pending.resolve(number) {
@@ -126,7 +78,8 @@ impl<B: Behavior> Snapshot<B> {
         sec: Sec,
     ) -> Result<(), Memory>
         requires entries { HasEntries (seen table.now) B.entries }
-        ensures { OnOk result (handling.handle_response B.rules (self.old, posts.old) number (λ (w : Waiting). failure_input w sec) ≡ (self.new, posts.new)) }
+        ensures handled { OnOk result (handling.handle_response B.rules (reached self.old posts.old) number (λ (w : Waiting). failure_input w sec) ≡ reached self.new posts.new) }
+        ensures dropped { is_waiting self.old.pending number ≡ false → IsOk result }
     {
         match self.pending.resolve(number) {
             None => Ok(()),
@@ -143,7 +96,9 @@ impl<B: Behavior> Snapshot<B> {
         from: u32,
         reason: Reason,
     ) -> Result<(), Memory>
-        ensures { OnOk result (handling.handle_exit (self.old, posts.old) from reason ≡ (self.new, posts.new)) }
+        ensures handled { OnOk result (handling.handle_exit (reached self.old posts.old) from reason ≡ reached self.new posts.new) }
+        ensures dropped { self.old.place ≡ 0 → IsOk result }
+        ensures normal { reason ≡ Reason.Normal → IsOk result }
     {
         if self.place == 0 {
             return Ok(());
@@ -165,7 +120,8 @@ impl<B: Behavior> Snapshot<B> {
         notice: Notice,
     ) -> Result<(), Memory>
         requires entries { HasEntries (seen table.now) B.entries }
-        ensures { OnOk result (handling.handle_notice B.rules (self.old, posts.old) notice ≡ (self.new, posts.new)) }
+        ensures handled { OnOk result (handling.handle_notice B.rules (reached self.old posts.old) notice ≡ reached self.new posts.new) }
+        ensures free { TakesNoMemory notice → IsOk result }
     {
         match notice {
             Notice::Start => self.give(alloc, table, posts, Input::Start),
@@ -190,6 +146,11 @@ impl<B: Behavior> Snapshot<B> {
                 self.observers.unwatch(from);
                 Ok(())
             }
+            Notice::Begin(_) => {
+                self.has_begun = true;
+                Ok(())
+            }
+            Notice::Tick(_) => self.handle_tick(alloc, table, posts),
         }
     }
 
@@ -203,7 +164,7 @@ impl<B: Behavior> Snapshot<B> {
     ) -> Result<(), Memory>
         requires entries { HasEntries (seen table.now) B.entries }
         requires fits { EnvelopeFits (shape_at (seen table.now)) (plain_envelope envelope) }
-        ensures { OnOk result (handling.handle_one B.rules (self.old, posts.old) (plain_envelope envelope) ≡ (self.new, posts.new)) }
+        ensures { OnOk result (handling.handle_one B.rules (reached self.old posts.old) (plain_envelope envelope) ≡ reached self.new posts.new) }
     {
         let (origin, body) = Origin::split(envelope);
         match self.quit {
@@ -222,7 +183,7 @@ impl<B: Behavior> Snapshot<B> {
     ) -> Result<(), Memory>
         requires entries { HasEntries (seen table.now) B.entries }
         requires fits { BodyFits (shape_at (seen table.now)) (plain_body body) }
-        ensures { OnOk result (handling.handle_body B.rules (self.old, posts.old) origin (plain_body body) ≡ (self.new, posts.new)) }
+        ensures { OnOk result (handling.handle_body B.rules (reached self.old posts.old) origin (plain_body body) ≡ reached self.new posts.new) }
     {
         match body {
             Body::System(notice) => self.handle_notice(alloc, table, posts, notice),

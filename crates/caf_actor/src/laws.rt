@@ -1,84 +1,11 @@
 //! What the layers above rest on besides the calls of an actor: how one message goes to several
 //! places, and laws that follow from the definitions alone. A law is the contract of a function that
 //! does nothing.
-ghost use Rattle.std.specs.Prelude.{◌≡◌, ◌++◌, ◌≤◌, ◌<◌, true, false, length, map, replicate, drop, IfOk, OnOk};
-ghost use Rattle.caf_steps.specs.Reference.{fresh, retained};
-ghost use Rattle.caf_steps.specs.declared.step.Step.TheVariants.{Retain};
-ghost use Rattle.caf_actor.specs.Sharing.{contents_of, to_each, to_copies, IsShared};
 ghost use Rattle.caf_actor.specs.Carriers.{EndsAsDeclared, CarriersRest};
+ghost use Rattle.caf_actor.specs.Resolutions.{NoneAfterQuitting};
 
 use crate::Behavior;
-use caf_message::Message;
-use caf_types::{Memory, Places, Seq};
-use std::alloc::Global;
-
-/// The least room of a message that is shared among places.
-const SHARING_ROOM: u64 = 4096;
-
-/// The message for each of the places, in their order: the first place gets this very reference.
-/// Where it has a room of at least 4,096, it is retained once for each further place, so that up to
-/// 1,024 places have one tuple; else each further place gets a copy.
-pub fn address(
-    alloc: Global,
-    places: Places,
-    message: Message,
-) -> Result<Seq<(u32, Message)>, Memory>
-    ensures contents { IfOk result (λ addressed. contents_of addressed ≡ to_each places message.content) }
-    ensures shared { 4096 ≤ message.room → 1 ≤ length places → length places ≤ 1024 → IfOk result (IsShared message (length places)) }
-    ensures copied { message.room < 4096 → IfOk result (λ addressed. drop 1 addressed ≡ to_copies (drop 1 places) message.content) }
-{
-    let mut message = message;
-    match places.as_slice() {
-        [] => Ok(Seq::new(alloc)),
-        [first, further @ ..] => {
-            let shares = message.room() >= SHARING_ROOM;
-            let mut addressed = further_messages(alloc, &mut message, further, shares)?;
-            match addressed.insert(0, (*first, message)) {
-                Ok(()) => Ok(Seq::of_vec(addressed)),
-                Err(_) => Err(Memory),
-            }
-        }
-    }
-}
-
-/// A second message with the same content for each of the places.
-fn further_messages(
-    alloc: Global,
-    message: &mut Message,
-    places: &[u32],
-    shares: bool,
-) -> Result<Vec<(u32, Message)>, Memory>
-    ensures contents { IfOk result (λ further. contents_of further.items ≡ to_each places.now message.old.content) }
-    ensures kept { message.new.content ≡ message.old.content }
-    ensures shared { shares ≡ true → 4096 ≤ message.old.room → length places.now ≤ 1023 → OnOk result (message.new.steps ≡ message.old.steps ++ replicate (length places.now) Retain) }
-    ensures copied { shares ≡ false → IfOk result (λ further. further.items ≡ to_copies places.now message.old.content) }
-{
-    let mut further = Vec::with_capacity(alloc, places.len())?;
-    for place in places {
-        let another = another_message(alloc, message, shares)?;
-        further.push_reserved((*place, another));
-    }
-    Ok(further)
-}
-
-/// A second message with the same content: in the same tuple where it is to be shared and has room,
-/// and else a copy.
-pub fn another_message(
-    alloc: Global,
-    message: &mut Message,
-    shares: bool,
-) -> Result<Message, Memory>
-    ensures same { IfOk result (λ another. another.content ≡ message.old.content) }
-    ensures kept { message.new.content ≡ message.old.content }
-    ensures shared { shares ≡ true → 1 ≤ message.old.room → OnOk result (message.new ≡ retained message.old) }
-    ensures copied { shares ≡ false → IfOk result (λ another. another ≡ fresh message.old.content) }
-{
-    if shares && message.room() > 0 {
-        message.retain()
-    } else {
-        message.copy(alloc)
-    }
-}
+pub use crate::sharing::{address, another_message};
 
 /// In every run, a request is resolved by a value of the types that it declared, or by an error.
 pub fn requests_end_as_declared<B: Behavior>()
@@ -89,4 +16,10 @@ pub fn requests_end_as_declared<B: Behavior>()
 /// envelope is eligible.
 pub fn carriers_rest_in_holds_and_lists<B: Behavior>()
     ensures { CarriersRest B.is_valid B.rules }
+{}
+
+/// Once an actor has quit, no batch reaches its behaviour or changes its reason, and none resolves a
+/// request.
+pub fn none_handled_after_quitting<B: Behavior>()
+    ensures { NoneAfterQuitting B.rules }
 {}

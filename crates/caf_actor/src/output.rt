@@ -17,12 +17,24 @@ pub enum Output {
     Exit(u32, Reason),
     /// Links this actor and the one at the place, each to the other.
     Link(u32),
+    /// Ends the link with the place, on both sides.
     Unlink(u32),
     /// Asks to be told when the actor at the place quits.
     Watch(u32),
+    /// Asks no longer to be told.
     Unwatch(u32),
     /// Answers the held request of this requester and number.
     Deliver(u32, u64, Message),
     /// Answers the held request of this requester and number by an error.
     Break(u32, u64, Sec),
+    /// Starts the child at this place, unless it was started before.
+    Spawn(u32),
+    /// Hands a tick on to the actor at the place.
+    Tick(u32),
+    /// Content to a place after so many ticks, of which none counts as one: ticks, to whom, how
+    /// urgent, and the content. An actor that quits before gives it up.
+    Delay(u32, u32, Priority, Message),
+    /// A request that fails with [`Sec::RequestTimeout`] where no response has come after so many
+    /// ticks, of which none counts as one: ticks, and then as `Request`.
+    Within(u32, u32, Priority, Mode, u32, TypeIds, Message),
 }

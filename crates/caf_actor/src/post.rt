@@ -1,5 +1,4 @@
-ghost use Rattle.std.specs.Prelude.{◌≡◌, [], ◌∷◌, ◌++◌, map, OnOk};
-ghost use Rattle.caf_actor.specs.PlainForms.{plain_post};
+ghost use Rattle.std.specs.Prelude.{◌≡◌, [], ◌∷◌, ◌++◌, OnOk};
 
 use caf_message::Envelope;
 use caf_types::{Memory, Seq};
@@ -9,7 +8,9 @@ use std::marker::Model;
 /// An envelope that is sent, and the place that it goes to.
 #[derive(Debug, Drop)]
 pub struct Post {
+    /// The place that it goes to.
     pub to: u32,
+    /// What is sent.
     pub envelope: Envelope,
 }
 
@@ -20,14 +21,12 @@ pub(crate) struct Posts {
 }
 
 impl Model for Posts {
-    ghost use Rattle.std.specs.Prelude.{List, map};
-    ghost use Rattle.caf_actor.specs.PlainPost.{PlainPost};
+    ghost use Rattle.std.specs.Prelude.{List};
+    ghost use Rattle.caf_actor.specs.declared.post.Post.{Post};
 
-    ghost Value = { List PlainPost };
+    ghost Value = { List Post };
 
-    ghost use Rattle.caf_actor.specs.PlainForms.{plain_post};
-
-    ghost view = { λ it. map plain_post it.posts };
+    ghost view = { λ it. it.posts };
 }
 
 impl Posts {
@@ -40,13 +39,13 @@ impl Posts {
     }
 
     pub(crate) fn push(&mut self, post: Post) -> Result<(), Memory>
-        ensures { OnOk result (self.new ≡ self.old ++ plain_post post ∷ []) }
+        ensures { OnOk result (self.new ≡ self.old ++ post ∷ []) }
     {
         self.posts.push(post)
     }
 
     pub(crate) fn into_seq(self) -> Seq<Post>
-        ensures { map plain_post result ≡ self }
+        ensures { result ≡ self }
     {
         let Posts { posts } = self;
         posts

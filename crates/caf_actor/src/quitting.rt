@@ -1,6 +1,7 @@
 //! How an actor quits, and what is left of it.
 ghost use Rattle.std.specs.Prelude.{◌≡◌, OnOk};
 ghost use Rattle.caf_message.specs.Envelope.{plain_body};
+ghost use Rattle.caf_actor.specs.PlainForms.{reached};
 ghost use Rattle.caf_actor.specs.Quitting.{all_cached};
 ghost use Rattle.caf_actor.specs.Quitting as quitting;
 
@@ -8,8 +9,8 @@ use crate::post::Posts;
 use crate::queue::Queue;
 use crate::{Origin, Snapshot};
 use caf_mailbox::Caches;
-use caf_message::{Body, Envelope};
-use caf_response::Holds;
+use caf_message::Body;
+use caf_response::{Delays, Holds};
 use caf_types::{Memory, Notice, Reason, Sec, Seq};
 use std::alloc::Global;
 use std::mem;
@@ -22,7 +23,7 @@ impl<B> Snapshot<B> {
         posts: &mut Posts,
         quit: Option<Reason>,
     ) -> Result<(), Memory>
-        ensures { OnOk result (quitting.quit_where (self.old, posts.old) quit ≡ (self.new, posts.new)) }
+        ensures { OnOk result (quitting.quit_where (reached self.old posts.old) quit ≡ reached self.new posts.new) }
     {
         match quit {
             Some(reason) => self.quit_with(alloc, posts, reason),
@@ -38,11 +39,12 @@ impl<B> Snapshot<B> {
         posts: &mut Posts,
         reason: Reason,
     ) -> Result<(), Memory>
-        ensures { OnOk result (quitting.quit_with (self.old, posts.old) reason ≡ (self.new, posts.new)) }
+        ensures { OnOk result (quitting.quit_with (reached self.old posts.old) reason ≡ reached self.new posts.new) }
     {
         let caches = mem::replace(&mut self.caches, Caches::new(alloc));
         let holds = mem::replace(&mut self.holds, Holds::new(alloc));
         self.pending.forget();
+        self.delays = Delays::new(alloc);
         self.quit = Some(reason);
         self.break_holds(posts, holds)?;
         self.shell_all(posts, reason, caches)?;
@@ -50,7 +52,7 @@ impl<B> Snapshot<B> {
     }
 
     fn break_holds(&mut self, posts: &mut Posts, holds: Holds) -> Result<(), Memory>
-        ensures { OnOk result (quitting.break_holds (self.old, posts.old) holds ≡ (self.new, posts.new)) }
+        ensures { OnOk result (quitting.break_holds (reached self.old posts.old) holds ≡ reached self.new posts.new) }
     {
         let mut holds = holds;
         while let Some(promise) = holds.first() {
@@ -61,7 +63,7 @@ impl<B> Snapshot<B> {
 
     /// Meets all that is cached, the urgent list first.
     fn shell_all(&mut self, posts: &mut Posts, reason: Reason, caches: Caches) -> Result<(), Memory>
-        ensures { OnOk result (quitting.shell_all (self.old, posts.old) reason (all_cached caches) ≡ (self.new, posts.new)) }
+        ensures { OnOk result (quitting.shell_all (reached self.old posts.old) reason (all_cached caches) ≡ reached self.new posts.new) }
     {
         let mut caches = caches;
         while let Some(envelope) = caches.pop_any() {
@@ -80,7 +82,7 @@ impl<B> Snapshot<B> {
         origin: Origin,
         body: Body,
     ) -> Result<(), Memory>
-        ensures { OnOk result (quitting.handle_shell (self.old, posts.old) reason origin (plain_body body) ≡ (self.new, posts.new)) }
+        ensures { OnOk result (quitting.handle_shell (reached self.old posts.old) reason origin (plain_body body) ≡ reached self.new posts.new) }
     {
         match body {
             Body::Content(_) => {
@@ -100,7 +102,7 @@ impl<B> Snapshot<B> {
         reason: Reason,
         notice: Notice,
     ) -> Result<(), Memory>
-        ensures { OnOk result (quitting.shell_notice (self.old, posts.old) reason notice ≡ (self.new, posts.new)) }
+        ensures { OnOk result (quitting.shell_notice (reached self.old posts.old) reason notice ≡ reached self.new posts.new) }
     {
         match notice {
             Notice::Link(from) => self.notify(posts, from, Notice::Exit(self.place, reason)),
@@ -110,7 +112,9 @@ impl<B> Snapshot<B> {
             | Notice::Exit(_, _)
             | Notice::Unlink(_)
             | Notice::Unwatch(_)
-            | Notice::Down(_, _) => Ok(()),
+            | Notice::Down(_, _)
+            | Notice::Begin(_)
+            | Notice::Tick(_) => Ok(()),
         }
     }
 
@@ -121,42 +125,19 @@ impl<B> Snapshot<B> {
         posts: &mut Posts,
         reason: Reason,
     ) -> Result<(), Memory>
-        ensures { OnOk result (quitting.say_farewell (self.old, posts.old) reason ≡ (self.new, posts.new)) }
+        ensures { OnOk result (quitting.say_farewell (reached self.old posts.old) reason ≡ reached self.new posts.new) }
     {
         let notices = self.observers.farewell(alloc, self.place, reason)?;
         self.notify_all(posts, notices)
     }
 
     fn notify_all(&mut self, posts: &mut Posts, notices: Seq<(u32, Notice)>) -> Result<(), Memory>
-        ensures { OnOk result (quitting.notify_all (self.old, posts.old) notices ≡ (self.new, posts.new)) }
+        ensures { OnOk result (quitting.notify_all (reached self.old posts.old) notices ≡ reached self.new posts.new) }
     {
         let mut notices = Queue::of(notices);
         while let Some((to, notice)) = notices.take_first() {
             self.notify(posts, to, notice)?;
         }
         Ok(())
-    }
-}
-
-impl Origin {
-    /// An envelope's origin and its body.
-    pub(crate) fn split(envelope: Envelope) -> (Origin, Body)
-        ensures { result ≡ (record { sender = envelope.sender; mid = envelope.mid; priority = envelope.priority }, envelope.body) }
-    {
-        let Envelope {
-            sender,
-            mid,
-            priority,
-            body,
-            ..
-        } = envelope;
-        (
-            Origin {
-                sender,
-                mid,
-                priority,
-            },
-            body,
-        )
     }
 }

@@ -24,7 +24,9 @@ pub enum Answer {
 /// quitting causes.
 #[derive(Debug, Drop)]
 pub struct Reaction {
+    /// What is sent, in order.
     pub outputs: Seq<Output>,
+    /// How the content is answered.
     pub answer: Answer,
     /// The reason to quit, if it quits.
     pub quit: Option<Reason>,

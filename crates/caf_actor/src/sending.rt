@@ -1,21 +1,24 @@
 //! How an actor sends: each envelope has the stamp of the batch and the next number of its receiver.
-ghost use Rattle.std.specs.Prelude.{◌≡◌, map, OnOk};
+ghost use Rattle.std.specs.Prelude.{◌≡◌, ◌≤◌, false, [], ◌∷◌, ◌++◌, length, map, None, IfOk, OnOk, IsOk};
 ghost use Rattle.caf_message.specs.Envelope.{plain_body};
 ghost use Rattle.caf_message.specs.Envelope as envelope;
+ghost use Rattle.caf_observe.specs.Places.{has_place, without_place};
+ghost use Rattle.caf_response.specs.Holds.{take_hold};
 ghost use Rattle.caf_response.specs.Promise.{plain_reply};
-ghost use Rattle.caf_actor.specs.PlainForms.{plain_output};
+ghost use Rattle.caf_actor.specs.PlainForms.{plain_output, reached};
+ghost use Rattle.caf_actor.specs.Sending.{may_issue};
 ghost use Rattle.caf_actor.specs.Sending as sending;
-ghost use Rattle.caf_actor.specs.Sharing.{contents_of, tell_each};
+ghost use Rattle.caf_actor.specs.Sharing.{contents_of, tell_each, bodies, contents, shared_among};
 ghost use Rattle.caf_message.specs.declared.envelope.Plain.TheVariants as «plain»;
 
-use crate::laws::address;
 use crate::post::{Post, Posts};
 use crate::queue::Queue;
+use crate::sharing::address;
 use crate::{Output, Snapshot};
 use caf_message::{Body, Envelope, Message};
 use caf_response::{IssueFault, Mode, Reply};
 use caf_types::{Memory, Mid, Notice, Places, Priority, Sec, Seq, TypeIds};
-use std::alloc::Global;
+use std::alloc::{AllocError, Global};
 
 impl<B> Snapshot<B> {
     /// Posts one envelope.
@@ -27,7 +30,8 @@ impl<B> Snapshot<B> {
         priority: Priority,
         body: Body,
     ) -> Result<(), Memory>
-        ensures { OnOk result (sending.post (self.old, posts.old) to mid priority (plain_body body) ≡ (self.new, posts.new)) }
+        ensures posted { OnOk result (sending.post (reached self.old posts.old) to mid priority (plain_body body) ≡ reached self.new posts.new) }
+        ensures sent { OnOk result (bodies posts.new ≡ bodies posts.old ++ body ∷ []) }
     {
         let seq = self.numbers.take(to)?;
         let envelope = Envelope {
@@ -60,7 +64,8 @@ impl<B> Snapshot<B> {
         priority: Priority,
         message: Message,
     ) -> Result<(), Memory>
-        ensures { OnOk result (sending.tell (self.old, posts.old) to priority message.content ≡ (self.new, posts.new)) }
+        ensures told { OnOk result (sending.tell (reached self.old posts.old) to priority message.content ≡ reached self.new posts.new) }
+        ensures reference { OnOk result (bodies posts.new ≡ bodies posts.old ++ Body.Content message ∷ []) }
     {
         let mid = self.no_request();
         self.post(posts, to, mid, priority, Body::Content(message))
@@ -73,7 +78,7 @@ impl<B> Snapshot<B> {
         to: u32,
         notice: Notice,
     ) -> Result<(), Memory>
-        ensures { OnOk result (sending.notify (self.old, posts.old) to notice ≡ (self.new, posts.new)) }
+        ensures { OnOk result (sending.notify (reached self.old posts.old) to notice ≡ reached self.new posts.new) }
     {
         let mid = self.no_request();
         self.post(posts, to, mid, Priority::Urgent, Body::System(notice))
@@ -81,7 +86,7 @@ impl<B> Snapshot<B> {
 
     /// Posts the answer to a request.
     pub(crate) fn send_reply(&mut self, posts: &mut Posts, reply: Reply) -> Result<(), Memory>
-        ensures { OnOk result (sending.send_reply (self.old, posts.old) (plain_reply reply) ≡ (self.new, posts.new)) }
+        ensures { OnOk result (sending.send_reply (reached self.old posts.old) (plain_reply reply) ≡ reached self.new posts.new) }
     {
         let Reply {
             to,
@@ -100,7 +105,8 @@ impl<B> Snapshot<B> {
         priority: Priority,
         message: Message,
     ) -> Result<(), Memory>
-        ensures { OnOk result (sending.tell_many (self.old, posts.old) places priority message.content ≡ (self.new, posts.new)) }
+        ensures told { OnOk result (sending.tell_many (reached self.old posts.old) places priority message.content ≡ reached self.new posts.new) }
+        ensures references { 4096 ≤ message.room → length places ≤ 1024 → OnOk result (bodies posts.new ≡ bodies posts.old ++ contents (shared_among message places)) }
     {
         let addressed = address(alloc, places, message)?;
         self.tell_each(posts, priority, addressed)
@@ -113,7 +119,8 @@ impl<B> Snapshot<B> {
         priority: Priority,
         addressed: Seq<(u32, Message)>,
     ) -> Result<(), Memory>
-        ensures { OnOk result (tell_each (self.old, posts.old) priority (contents_of addressed) ≡ (self.new, posts.new)) }
+        ensures told { OnOk result (tell_each (reached self.old posts.old) priority (contents_of addressed) ≡ reached self.new posts.new) }
+        ensures references { OnOk result (bodies posts.new ≡ bodies posts.old ++ contents addressed) }
     {
         let mut addressed = Queue::of(addressed);
         while let Some((to, message)) = addressed.take_first() {
@@ -133,20 +140,55 @@ impl<B> Snapshot<B> {
         expected: TypeIds,
         message: Message,
     ) -> Result<(), Memory>
-        ensures { OnOk result (sending.request (self.old, posts.old) to priority mode tag expected message.content ≡ (self.new, posts.new)) }
+        ensures requested { OnOk result (sending.request (reached self.old posts.old) to priority mode tag expected message.content ≡ reached self.new posts.new) }
+        ensures dropped { may_issue self.old ≡ false → IsOk result }
     {
         match self.pending.issue(mode, tag, expected) {
-            Ok(number) => {
-                let mid = Mid {
-                    requester: self.place,
-                    number,
-                    response: false,
-                };
-                self.post(posts, to, mid, priority, Body::Content(message))
-            }
+            Ok(number) => self.post_request(posts, to, number, priority, message),
             Err(IssueFault::Spent) => Ok(()),
             Err(IssueFault::Memory) => Err(Memory),
         }
+    }
+
+    /// Posts a request whose time is over after so many ticks.
+    fn request_within(
+        &mut self,
+        posts: &mut Posts,
+        ticks: u32,
+        to: u32,
+        priority: Priority,
+        mode: Mode,
+        tag: u32,
+        expected: TypeIds,
+        message: Message,
+    ) -> Result<(), Memory>
+        ensures requested { OnOk result (sending.request_within (reached self.old posts.old) ticks to priority mode tag expected message.content ≡ reached self.new posts.new) }
+        ensures dropped { may_issue self.old ≡ false → IsOk result }
+    {
+        let due = self.clock.due_after(ticks);
+        match self.pending.issue_within(mode, tag, expected, due) {
+            Ok(number) => self.post_request(posts, to, number, priority, message),
+            Err(IssueFault::Spent) => Ok(()),
+            Err(IssueFault::Memory) => Err(Memory),
+        }
+    }
+
+    fn post_request(
+        &mut self,
+        posts: &mut Posts,
+        to: u32,
+        number: u64,
+        priority: Priority,
+        message: Message,
+    ) -> Result<(), Memory>
+        ensures { OnOk result (sending.post (reached self.old posts.old) to (sending.mid_of self.old.place number) priority («plain».Content message.content) ≡ reached self.new posts.new) }
+    {
+        let mid = Mid {
+            requester: self.place,
+            number,
+            response: false,
+        };
+        self.post(posts, to, mid, priority, Body::Content(message))
     }
 
     /// Delivers a held request. Where there is none, nothing is sent.
@@ -157,7 +199,8 @@ impl<B> Snapshot<B> {
         number: u64,
         message: Message,
     ) -> Result<(), Memory>
-        ensures { OnOk result (sending.settle (self.old, posts.old) requester number («plain».Content message.content) ≡ (self.new, posts.new)) }
+        ensures settled { OnOk result (sending.settle (reached self.old posts.old) requester number («plain».Content message.content) ≡ reached self.new posts.new) }
+        ensures dropped { take_hold self.old.holds requester number ≡ None → IsOk result }
     {
         match self.holds.take(requester, number) {
             Some(promise) => self.send_reply(posts, promise.deliver(message)),
@@ -173,7 +216,8 @@ impl<B> Snapshot<B> {
         number: u64,
         sec: Sec,
     ) -> Result<(), Memory>
-        ensures { OnOk result (sending.settle (self.old, posts.old) requester number («plain».Failure sec) ≡ (self.new, posts.new)) }
+        ensures settled { OnOk result (sending.settle (reached self.old posts.old) requester number («plain».Failure sec) ≡ reached self.new posts.new) }
+        ensures dropped { take_hold self.old.holds requester number ≡ None → IsOk result }
     {
         match self.holds.take(requester, number) {
             Some(promise) => self.send_reply(posts, promise.fail(sec)),
@@ -182,7 +226,8 @@ impl<B> Snapshot<B> {
     }
 
     fn link(&mut self, posts: &mut Posts, to: u32) -> Result<(), Memory>
-        ensures { OnOk result (sending.link (self.old, posts.old) to ≡ (self.new, posts.new)) }
+        ensures linked { OnOk result (sending.link (reached self.old posts.old) to ≡ reached self.new posts.new) }
+        ensures dropped { to ≡ self.old.place → IsOk result }
     {
         if to == self.place {
             return Ok(());
@@ -192,19 +237,58 @@ impl<B> Snapshot<B> {
     }
 
     fn unlink(&mut self, posts: &mut Posts, to: u32) -> Result<(), Memory>
-        ensures { OnOk result (sending.unlink (self.old, posts.old) to ≡ (self.new, posts.new)) }
+        ensures { OnOk result (sending.unlink (reached self.old posts.old) to ≡ reached self.new posts.new) }
     {
         self.observers.unlink(to);
         self.notify(posts, to, Notice::Unlink(self.place))
     }
 
     fn watch(&mut self, posts: &mut Posts, to: u32) -> Result<(), Memory>
-        ensures { OnOk result (sending.watch (self.old, posts.old) to ≡ (self.new, posts.new)) }
+        ensures watched { OnOk result (sending.watch (reached self.old posts.old) to ≡ reached self.new posts.new) }
+        ensures dropped { to ≡ self.old.place → IsOk result }
     {
         if to == self.place {
             return Ok(());
         }
         self.notify(posts, to, Notice::Watch(self.place))
+    }
+
+    /// Starts the child at the place, unless it was started before.
+    fn spawn(&mut self, alloc: Global, posts: &mut Posts, place: u32) -> Result<(), Memory>
+        ensures spawned { OnOk result (sending.spawn (reached self.old posts.old) place ≡ reached self.new posts.new) }
+        ensures dropped { has_place self.old.unstarted place ≡ false → IsOk result }
+    {
+        if !self.unstarted.as_slice().contains(&place) {
+            return Ok(());
+        }
+        self.take_unstarted(alloc, place)?;
+        self.notify(posts, place, Notice::Begin(self.place))
+    }
+
+    /// Takes the place out of those whose child wasn't started.
+    fn take_unstarted(&mut self, alloc: Global, place: u32) -> Result<(), Memory>
+        ensures { OnOk result (self.new ≡ record self.old { unstarted = without_place self.old.unstarted place }) }
+    {
+        let others = without(alloc, self.unstarted.as_slice(), place)?;
+        self.unstarted = Places::of_vec(others);
+        Ok(())
+    }
+
+    /// Keeps a content until so many ticks have come.
+    fn delay(
+        &mut self,
+        ticks: u32,
+        to: u32,
+        priority: Priority,
+        message: Message,
+    ) -> Result<(), Memory>
+        ensures { OnOk result (self.new ≡ sending.with_delayed self.old ticks to priority message.content) }
+    {
+        let due = self.clock.due_after(ticks);
+        match self.delays.add(due, to, priority, message) {
+            Ok(()) => Ok(()),
+            Err((_, memory)) => Err(memory),
+        }
     }
 
     /// Does what one output says.
@@ -214,7 +298,7 @@ impl<B> Snapshot<B> {
         posts: &mut Posts,
         output: Output,
     ) -> Result<(), Memory>
-        ensures { OnOk result (sending.send_output (self.old, posts.old) (plain_output output) ≡ (self.new, posts.new)) }
+        ensures { OnOk result (sending.send_output (reached self.old posts.old) (plain_output output) ≡ reached self.new posts.new) }
     {
         match output {
             Output::Tell(to, priority, message) => self.tell(posts, to, priority, message),
@@ -235,6 +319,12 @@ impl<B> Snapshot<B> {
             Output::Break(requester, number, sec) => {
                 self.break_hold(posts, requester, number, sec)
             }
+            Output::Spawn(place) => self.spawn(alloc, posts, place),
+            Output::Tick(to) => self.notify(posts, to, Notice::Tick(self.place)),
+            Output::Delay(ticks, to, priority, message) => self.delay(ticks, to, priority, message),
+            Output::Within(ticks, to, priority, mode, tag, expected, message) => {
+                self.request_within(posts, ticks, to, priority, mode, tag, expected, message)
+            }
         }
     }
 
@@ -245,7 +335,7 @@ impl<B> Snapshot<B> {
         posts: &mut Posts,
         outputs: Seq<Output>,
     ) -> Result<(), Memory>
-        ensures { OnOk result (sending.send_outputs (self.old, posts.old) (map plain_output outputs) ≡ (self.new, posts.new)) }
+        ensures { OnOk result (sending.send_outputs (reached self.old posts.old) (map plain_output outputs) ≡ reached self.new posts.new) }
     {
         let mut outputs = Queue::of(outputs);
         while let Some(output) = outputs.take_first() {
@@ -253,4 +343,15 @@ impl<B> Snapshot<B> {
         }
         Ok(())
     }
+}
+
+/// The other places.
+fn without(alloc: Global, places: &[u32], place: u32) -> Result<Vec<u32>, AllocError>
+    ensures { IfOk result (λ others. others.items ≡ without_place places.now place) }
+{
+    places
+        .iter()
+        .copied()
+        .filter(|other| *other != place)
+        .collect(alloc)
 }

@@ -6,3 +6,4 @@ pub mod Message
 pub mod Builder
 pub mod Answers
 pub mod Envelope
+pub mod Outside

@@ -1,9 +1,9 @@
 -- The laws of behaviours, for scripted ones.
-use Rattle.std.specs.Prelude.{◌≡◌, ℕ, ◌+◌, ◌≤◌, nat_le, bytes_eq, if◌then◌else◌, Bool, true, false, List, [], ◌∷◌, ◌++◌, length, Option, Some, None, refl, Contains}
-use Rattle.std.proofs.Common.{suc, ap, sym, ◌∙◌, arith}
+use Rattle.std.specs.Prelude.{◌≡◌, ℕ, ◌+◌, ◌≤◌, ◌<◌, nat_le, bytes_eq, if◌then◌else◌, Bool, true, false, List, [], ◌∷◌, ◌++◌, length, Option, Some, None, refl, Contains}
+use Rattle.std.proofs.Common.{zero, suc, ◌||◌, slice_index_or, ap, sym, ◌∙◌, arith}
 use Rattle.std.proofs.lemmas.Bool.{lt-ltb, leb-true}
 use Rattle.std.proofs.lemmas.Slice.Eq.{bytes_eq-Decides}
-use Rattle.std.specs.List.{AllByRecursion}
+use Rattle.std.specs.List.{AllByRecursion, list_any}
 use Rattle.caf_types.specs.ShapeTree.{ShapeTree}
 use Rattle.caf_types.specs.Table.{shape_at}
 use Rattle.caf_types.specs.declared.sec.Sec.TheVariants as sec
@@ -12,19 +12,20 @@ use Rattle.caf_message.specs.Content.{ids_in}
 use Rattle.caf_message.specs.Entries.{TableEntries, entry_shape}
 use Rattle.caf_message.specs.Fits.{Fits}
 use Rattle.caf_signature.specs.declared.interface.Signature.{Signature}
-use Rattle.caf_actor.specs.declared.input.Origin.{Origin}
+use Rattle.caf_actor.specs.declared.origin.Origin.{Origin}
 use Rattle.caf_actor.specs.Answering.{is_asked}
-use Rattle.caf_actor.specs.PlainInput.{PlainInput, Start, Stop, Content, Response, Failed, Down}
+use Rattle.caf_actor.specs.PlainInput.{PlainInput, Start, Stop, Content, Response, Failed, Down, Tick}
 use Rattle.caf_actor.specs.PlainOutput.{PlainOutput}
 use Rattle.caf_actor.specs.PlainReaction.{PlainAnswer, PlainReaction}
 use Rattle.caf_actor.specs.PlainReaction as answer
-use Rattle.caf_actor.specs.Rules.{InputFits, OutputFits, AnswerFits, ReactionFits, IsTarget, signature_for, declared_for, is_input, output_targets, answer_targets, outputs_count, StaysValid, StaysSameActor, SkipsInputs, FitsItsTable, FitsItsEntries, AnswersRequests, AnswersAsDeclared, SendsToPeers, SendsFew, StopsWithExits}
+use Rattle.caf_actor.specs.Rules.{InputFits, OutputFits, AnswerFits, ReactionFits, IsTarget, signature_for, declared_for, is_input, output_targets, answer_targets, outputs_count, StaysValid, StaysSameActor, SkipsInputs, FitsItsTable, FitsItsEntries, AnswersRequests, AnswersAsDeclared, DelegatesAsTold, SendsToPeers, SendsFew, TicksAtTicks, StopsWithExits, IsNoTick}
 use Rattle.caf_actor.proofs.InterfaceLemmas.{found_takes}
 use Rattle.caf_scripted.specs.declared.act.Act.{Act}
 use Rattle.caf_scripted.specs.declared.act.Sending.{Sending}
 use Rattle.caf_scripted.specs.declared.act.Sending.TheVariants as sending
 use Rattle.caf_scripted.specs.declared.act.Reply.{Reply}
 use Rattle.caf_scripted.specs.declared.act.Reply.TheVariants as reply
+use Rattle.caf_scripted.specs.Script.{last_act, is_delegate, passes_on}
 use Rattle.caf_scripted.specs.declared.scripted.Scripted.{Scripted}
 use Rattle.caf_scripted.specs.Scripted.{act_now, first_peer, takes_first, echo_by, ignore, few, answer_by, output_by, outputs_by, reaction_to, reaction, scripted_rules}
 
@@ -35,12 +36,13 @@ pub stays_valid : StaysValid AnyValue scripted_rules
 stays_valid s i valid given = tt
 
 pub stays_same_actor : StaysSameActor AnyValue scripted_rules
-stays_same_actor s Start valid given = record { place = refl; interface = refl; peers = refl }
-stays_same_actor s Stop valid given = record { place = refl; interface = refl; peers = refl }
-stays_same_actor s (Content origin words) valid given = record { place = refl; interface = refl; peers = refl }
-stays_same_actor s (Response tag words) valid given = record { place = refl; interface = refl; peers = refl }
-stays_same_actor s (Failed tag why) valid given = record { place = refl; interface = refl; peers = refl }
-stays_same_actor s (Down place why) valid given = record { place = refl; interface = refl; peers = refl }
+stays_same_actor s Start valid given = record { place = refl; interface = refl; peers = refl; reserve = refl }
+stays_same_actor s Stop valid given = record { place = refl; interface = refl; peers = refl; reserve = refl }
+stays_same_actor s (Content origin words) valid given = record { place = refl; interface = refl; peers = refl; reserve = refl }
+stays_same_actor s (Response tag words) valid given = record { place = refl; interface = refl; peers = refl; reserve = refl }
+stays_same_actor s (Failed tag why) valid given = record { place = refl; interface = refl; peers = refl; reserve = refl }
+stays_same_actor s (Down place why) valid given = record { place = refl; interface = refl; peers = refl; reserve = refl }
+stays_same_actor s Tick valid given = record { place = refl; interface = refl; peers = refl; reserve = refl }
 
 -- ---- skips
 
@@ -90,6 +92,9 @@ output_fits shape_of s to origin words sending.Watch h = tt
 output_fits shape_of s to origin words sending.Unwatch h = tt
 output_fits shape_of s to origin words (sending.Deliver requester number) h = h
 output_fits shape_of s to origin words (sending.Break requester number why) h = tt
+output_fits shape_of s to origin words sending.Spawn h = tt
+output_fits shape_of s to origin words (sending.Delay ticks) h = h
+output_fits shape_of s to origin words (sending.AskWithin ticks mode tag expected) h = h
 
 outputs_fit : (shape_of : ℕ → Option ShapeTree) (s : Scripted) (to : ℕ) (origin : Origin) (words : List ℕ) (what : Option Sending) → Fits shape_of words → AllByRecursion (OutputFits shape_of) (outputs_by s to origin words what)
 outputs_fit shape_of s to origin words None h = tt
@@ -109,6 +114,7 @@ all_fit shape_of s (Content origin words) h = reaction_fits shape_of s (first_pe
 all_fit shape_of s (Response tag words) h = record { outputs = tt; answer = tt }
 all_fit shape_of s (Failed tag why) h = record { outputs = tt; answer = tt }
 all_fit shape_of s (Down place why) h = record { outputs = tt; answer = tt }
+all_fit shape_of s Tick h = record { outputs = tt; answer = tt }
 
 pub fits_its_table : (entries : TableEntries) → FitsItsTable AnyValue scripted_rules entries
 fits_its_table entries t s i has valid given h = all_fit (shape_at t) s i h
@@ -187,11 +193,33 @@ peers_are_targets all [] place within = tt
 peers_are_targets all (p ∷ ps) place within =
     (behind all p place (within p (0, omega arith, refl)), peers_are_targets all ps place (λ q h. within q (behind ps q p h)))
 
+in_first : (xs ys : List ℕ) (x : ℕ) → Contains xs x → Contains (xs ++ ys) x
+in_first [] ys x h = let within = h.1 in absurd (omega arith)
+in_first (y ∷ xs) ys x h = at (in_first xs ys x) h.0 h.1 h.2
+  where
+    at : (Contains xs x → Contains (xs ++ ys) x) → (k : ℕ) → k < length (y ∷ xs) → slice_index_or (y ∷ xs) k x ≡ x → Contains ((y ∷ xs) ++ ys) x
+    at later zero lt is = (0, omega arith, is)
+    at later (suc k) lt is = behind (xs ++ ys) x y (later (k, omega arith, is))
+
+in_second : (xs ys : List ℕ) (x : ℕ) → Contains ys x → Contains (xs ++ ys) x
+in_second [] ys x h = h
+in_second (y ∷ xs) ys x h = behind (xs ++ ys) x y (in_second xs ys x h)
+
+first_peer_is_target : (s : Scripted) → IsTarget scripted_rules s (first_peer s.place s.peers)
+first_peer_is_target s = in_first (s.place ∷ s.peers) s.reserve (first_peer s.place s.peers) (first_is_target s.place s.peers)
+
+child_is_target : (s : Scripted) → IsTarget scripted_rules s (first_peer s.place s.reserve)
+child_is_target s = go s.reserve (λ x h. in_second s.peers s.reserve x h)
+  where
+    go : (reserve : List ℕ) → ((x : ℕ) → Contains reserve x → Contains (s.peers ++ s.reserve) x) → Contains (s.place ∷ (s.peers ++ s.reserve)) (first_peer s.place reserve)
+    go [] within = (0, omega arith, refl)
+    go (p ∷ ps) within = behind (s.peers ++ s.reserve) p s.place (within p (0, omega arith, refl))
+
 few_are_targets : (s : Scripted) → AllByRecursion (IsTarget scripted_rules s) (few s.peers)
 few_are_targets s = go (nat_le (length s.peers) 512)
   where
     go : (b : Bool) → AllByRecursion (IsTarget scripted_rules s) (if b then s.peers else [])
-    go true = peers_are_targets s.peers s.peers s.place (λ p h. h)
+    go true = peers_are_targets (s.peers ++ s.reserve) s.peers s.place (λ p h. in_first s.peers s.reserve p h)
     go false = tt
 
 output_targets_are : (s : Scripted) (to : ℕ) (origin : Origin) (words : List ℕ) (what : Sending) → IsTarget scripted_rules s to → AllByRecursion (IsTarget scripted_rules s) (output_targets (output_by s to origin words what))
@@ -205,6 +233,9 @@ output_targets_are s to origin words sending.Watch h = (h, tt)
 output_targets_are s to origin words sending.Unwatch h = (h, tt)
 output_targets_are s to origin words (sending.Deliver requester number) h = tt
 output_targets_are s to origin words (sending.Break requester number why) h = tt
+output_targets_are s to origin words sending.Spawn h = (child_is_target s, tt)
+output_targets_are s to origin words (sending.Delay ticks) h = (h, tt)
+output_targets_are s to origin words (sending.AskWithin ticks mode tag expected) h = (h, tt)
 
 outputs_targets_are : (s : Scripted) (to : ℕ) (origin : Origin) (words : List ℕ) (what : Option Sending) → IsTarget scripted_rules s to → AllByRecursion (λ o. AllByRecursion (IsTarget scripted_rules s) (output_targets o)) (outputs_by s to origin words what)
 outputs_targets_are s to origin words None h = tt
@@ -241,11 +272,12 @@ sends_to_peers s Start valid given = record { outputs = tt; answer = tt }
 sends_to_peers s Stop valid given = record { outputs = tt; answer = tt }
 sends_to_peers s (Content origin words) valid given =
     let to = first_peer s.place s.peers in
-    let h = first_is_target s.place s.peers in
+    let h = first_peer_is_target s in
     record { outputs = both_are s (outputs_by s to origin words (act_now s).sending) (outputs_by s to origin words (act_now s).afterwards) (outputs_targets_are s to origin words (act_now s).sending h) (outputs_targets_are s to origin words (act_now s).afterwards h); answer = answer_targets_are s to origin words (act_now s).reply h }
 sends_to_peers s (Response tag words) valid given = record { outputs = tt; answer = tt }
 sends_to_peers s (Failed tag why) valid given = record { outputs = tt; answer = tt }
 sends_to_peers s (Down place why) valid given = record { outputs = tt; answer = tt }
+sends_to_peers s Tick valid given = record { outputs = tt; answer = tt }
 
 -- ---- how many
 
@@ -267,6 +299,9 @@ output_few s to origin words sending.Watch = omega arith
 output_few s to origin words sending.Unwatch = omega arith
 output_few s to origin words (sending.Deliver requester number) = omega arith
 output_few s to origin words (sending.Break requester number why) = omega arith
+output_few s to origin words sending.Spawn = omega arith
+output_few s to origin words (sending.Delay ticks) = omega arith
+output_few s to origin words (sending.AskWithin ticks mode tag expected) = omega arith
 
 outputs_few : (s : Scripted) (to : ℕ) (origin : Origin) (words : List ℕ) (what : Option Sending) → outputs_count (outputs_by s to origin words what) ≤ 512
 outputs_few s to origin words None = omega arith
@@ -288,6 +323,74 @@ sends_few s (Content origin words) valid given =
 sends_few s (Response tag words) valid given = omega arith
 sends_few s (Failed tag why) valid given = omega arith
 sends_few s (Down place why) valid given = omega arith
+sends_few s Tick valid given = omega arith
 
 pub stops_with_exits : StopsWithExits AnyValue scripted_rules
 stops_with_exits s valid = tt
+
+-- ---- delegations, and ticks that are handed on
+
+passes_here : (acts : List Act) (n : ℕ) → passes_on (slice_index_or acts n last_act) ≡ true → list_any passes_on acts ≡ true
+passes_here [] n h = cc
+passes_here (a ∷ acts) zero h = rw h refl
+passes_here (a ∷ acts) (suc n) h = go (passes_on a) (passes_here acts n h)
+  where
+    go : (b : Bool) → list_any passes_on acts ≡ true → (b || list_any passes_on acts) ≡ true
+    go true later = refl
+    go false later = later
+
+echo_passes_none : (found : Option Signature) (words : List ℕ) (to : ℕ) → echo_by found words ≡ answer.Delegate to → ⊥
+echo_passes_none None words to q = cc
+echo_passes_none (Some s) words to q = go (bytes_eq (ids_of s.result) (ids_of s.input)) refl
+  where
+    go : (b : Bool) → bytes_eq (ids_of s.result) (ids_of s.input) ≡ b → ⊥
+    go true e = let no : ◌≡◌ {A = PlainAnswer} (answer.Value words) (answer.Delegate to) = rw e at q in cc
+    go false e = let no : ◌≡◌ {A = PlainAnswer} (answer.Error sec.Failed) (answer.Delegate to) = rw e at q in cc
+
+ignore_passes_none : (origin : Origin) (to : ℕ) → ignore origin ≡ answer.Delegate to → ⊥
+ignore_passes_none origin to q = go (is_asked origin) refl
+  where
+    go : (b : Bool) → is_asked origin ≡ b → ⊥
+    go true e = let no : ◌≡◌ {A = PlainAnswer} (answer.Error sec.Failed) (answer.Delegate to) = rw e at q in cc
+    go false e = let no : ◌≡◌ {A = PlainAnswer} answer.Nothing (answer.Delegate to) = rw e at q in cc
+
+only_delegates : (s : Scripted) (to place : ℕ) (origin : Origin) (words : List ℕ) (r : Reply) → answer_by s to origin words r ≡ answer.Delegate place → is_delegate r ≡ true
+only_delegates s to place origin words reply.Echo q = absurd (echo_passes_none (signature_for s.interface (ids_in words)) words place q)
+only_delegates s to place origin words reply.Fail q = cc
+only_delegates s to place origin words reply.Ignore q = absurd (ignore_passes_none origin place q)
+only_delegates s to place origin words reply.Delegate q = refl
+only_delegates s to place origin words reply.Hold q = cc
+
+pub delegates_as_told : DelegatesAsTold AnyValue scripted_rules
+delegates_as_told s origin words to valid given q =
+    passes_here s.acts s.done (only_delegates s (first_peer s.place s.peers) to origin words (act_now s).reply q)
+
+output_is_no_tick : (s : Scripted) (to : ℕ) (origin : Origin) (words : List ℕ) (what : Sending) → IsNoTick (output_by s to origin words what)
+output_is_no_tick s to origin words sending.Tell = tt
+output_is_no_tick s to origin words sending.Fan = tt
+output_is_no_tick s to origin words (sending.Ask mode tag expected) = tt
+output_is_no_tick s to origin words (sending.Exit why) = tt
+output_is_no_tick s to origin words sending.Link = tt
+output_is_no_tick s to origin words sending.Unlink = tt
+output_is_no_tick s to origin words sending.Watch = tt
+output_is_no_tick s to origin words sending.Unwatch = tt
+output_is_no_tick s to origin words (sending.Deliver requester number) = tt
+output_is_no_tick s to origin words (sending.Break requester number why) = tt
+output_is_no_tick s to origin words sending.Spawn = tt
+output_is_no_tick s to origin words (sending.Delay ticks) = tt
+output_is_no_tick s to origin words (sending.AskWithin ticks mode tag expected) = tt
+
+no_ticks : (s : Scripted) (to : ℕ) (origin : Origin) (words : List ℕ) (first second : Option Sending) → AllByRecursion IsNoTick (outputs_by s to origin words first ++ outputs_by s to origin words second)
+no_ticks s to origin words None None = tt
+no_ticks s to origin words None (Some b) = (output_is_no_tick s to origin words b, tt)
+no_ticks s to origin words (Some a) None = (output_is_no_tick s to origin words a, tt)
+no_ticks s to origin words (Some a) (Some b) = (output_is_no_tick s to origin words a, (output_is_no_tick s to origin words b, tt))
+
+pub ticks_at_ticks : TicksAtTicks AnyValue scripted_rules
+ticks_at_ticks s Start valid given other = tt
+ticks_at_ticks s Stop valid given other = tt
+ticks_at_ticks s (Content origin words) valid given other = no_ticks s (first_peer s.place s.peers) origin words (act_now s).sending (act_now s).afterwards
+ticks_at_ticks s (Response tag words) valid given other = tt
+ticks_at_ticks s (Failed tag why) valid given other = tt
+ticks_at_ticks s (Down place why) valid given other = tt
+ticks_at_ticks s Tick valid given other = tt

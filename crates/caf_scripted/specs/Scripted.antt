@@ -1,12 +1,13 @@
 -- What a scripted behaviour does.
 use Rattle.std.specs.Prelude.{ℕ, ◌+◌, ◌&&◌, nat_le, bytes_eq, if◌then◌else◌, Bool, false, List, [], ◌∷◌, ◌++◌, length, min, Option, Some, None, slice_index_or, unwrap_or}
+use Rattle.std.specs.List.{list_any}
 use Rattle.caf_types.specs.declared.sec.Sec.TheVariants as sec
 use Rattle.caf_words.specs.Several.{ids_of}
 use Rattle.caf_message.specs.Content.{ids_in}
 use Rattle.caf_signature.specs.declared.interface.Signature.{Signature}
-use Rattle.caf_actor.specs.declared.input.Origin.{Origin}
+use Rattle.caf_actor.specs.declared.origin.Origin.{Origin}
 use Rattle.caf_actor.specs.Answering.{is_asked}
-use Rattle.caf_actor.specs.PlainInput.{PlainInput, Start, Stop, Content, Response, Failed, Down}
+use Rattle.caf_actor.specs.PlainInput.{PlainInput, Start, Stop, Content, Response, Failed, Down, Tick}
 use Rattle.caf_actor.specs.PlainOutput.{PlainOutput}
 use Rattle.caf_actor.specs.PlainOutput as output
 use Rattle.caf_actor.specs.PlainReaction.{PlainAnswer, PlainReaction}
@@ -17,7 +18,7 @@ use Rattle.caf_scripted.specs.declared.act.Sending.{Sending}
 use Rattle.caf_scripted.specs.declared.act.Sending.TheVariants as sending
 use Rattle.caf_scripted.specs.declared.act.Reply.{Reply}
 use Rattle.caf_scripted.specs.declared.act.Reply.TheVariants as reply
-use Rattle.caf_scripted.specs.Script.{last_act}
+use Rattle.caf_scripted.specs.Script.{last_act, passes_on}
 use Rattle.caf_scripted.specs.declared.act.Note.{Note}
 use Rattle.caf_scripted.specs.declared.act.Note.TheVariants as note
 use Rattle.caf_scripted.specs.declared.scripted.Scripted.{Scripted}
@@ -75,6 +76,9 @@ output_by s to origin words sending.Watch = output.Watch to
 output_by s to origin words sending.Unwatch = output.Unwatch to
 output_by s to origin words (sending.Deliver requester number) = output.Deliver requester number words
 output_by s to origin words (sending.Break requester number why) = output.Break requester number why
+output_by s to origin words sending.Spawn = output.Spawn (first_peer s.place s.reserve)
+output_by s to origin words (sending.Delay ticks) = output.Delay ticks to origin.priority words
+output_by s to origin words (sending.AskWithin ticks mode tag expected) = output.Within ticks to origin.priority mode tag (expected ∷ []) words
 
 abbrev pub outputs_by : Scripted → ℕ → Origin → List ℕ → Option Sending → List PlainOutput
 outputs_by s to origin words None = []
@@ -107,6 +111,11 @@ next s Stop = noted s note.Stopped
 next s (Response tag words) = noted s (note.Responded tag)
 next s (Failed tag why) = noted s (note.Failed tag why)
 next s (Down place why) = noted s (note.Down place why)
+next s Tick = noted s note.Ticked
+
+-- some act passes its content on
+abbrev pub delegates : Scripted → List ℕ → Bool
+delegates s ids = list_any passes_on s.acts
 
 abbrev pub skips : Scripted → List ℕ → Bool
 skips s ids = s.is_asleep && takes_first s.interface ids
@@ -116,7 +125,9 @@ scripted_rules = record {
   place = λ s. s.place;
   interface = λ s. s.interface;
   peers = λ s. s.peers;
+  reserve = λ s. s.reserve;
   skips = skips;
+  delegates = delegates;
   next = next;
   reaction = reaction;
 }

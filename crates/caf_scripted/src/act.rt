@@ -1,5 +1,5 @@
 ghost use Rattle.std.specs.Prelude.{◌≡◌};
-ghost use Rattle.caf_scripted.specs.Script.{only};
+ghost use Rattle.caf_scripted.specs.Script.{only, passes_on};
 
 use caf_response::Mode;
 use caf_types::{Reason, Sec, TypeId};
@@ -7,8 +7,11 @@ use caf_types::{Reason, Sec, TypeId};
 /// What a scripted behaviour does at one content.
 #[derive(Clone, Copy, Debug, PartialEq, Eq, Drop)]
 pub struct Act {
+    /// What it sends first.
     pub sending: Option<Sending>,
+    /// What it sends then.
     pub afterwards: Option<Sending>,
+    /// How it answers.
     pub reply: Reply,
     /// Whether it sleeps from now on; None leaves that as it is.
     pub sleeps: Option<bool>,
@@ -26,15 +29,27 @@ pub enum Sending {
     Fan,
     /// The content as a request: how it waits, its tag, and the one type that is expected.
     Ask(Mode, u32, TypeId),
+    /// An exit notice.
     Exit(Reason),
+    /// A link.
     Link,
+    /// The end of a link.
     Unlink,
+    /// A watch.
     Watch,
+    /// The end of a watch.
     Unwatch,
     /// The content to the held request of that requester and number.
     Deliver(u32, u64),
     /// The error to the held request of that requester and number.
     Break(u32, u64, Sec),
+    /// Starts the first child, or its own place without one.
+    Spawn,
+    /// The content after so many ticks.
+    Delay(u32),
+    /// The content as a request within so many ticks: these, how it waits, its tag, and the one type
+    /// that is expected.
+    AskWithin(u32, Mode, u32, TypeId),
 }
 
 /// How it answers.
@@ -56,14 +71,28 @@ pub enum Reply {
 /// What a scripted behaviour remembers of an input that is no content.
 #[derive(Clone, Copy, Debug, PartialEq, Eq, Drop)]
 pub enum Note {
+    /// A run begins.
     Started,
+    /// A run is at rest.
     Stopped,
+    /// The request with this tag was answered by a value.
     Responded(u32),
+    /// The request with this tag failed.
     Failed(u32, Sec),
+    /// A watched place quit.
     Down(u32, Reason),
+    /// A tick has come.
+    Ticked,
 }
 
 impl Act {
+    /// Whether it passes its content on.
+    pub(crate) fn delegates(&self) -> bool
+        ensures { result ≡ passes_on self.now }
+    {
+        matches!(self.reply, Reply::Delegate)
+    }
+
     /// Answers so, and does nothing else.
     pub const fn only(reply: Reply) -> Act
         ensures { result ≡ only reply }

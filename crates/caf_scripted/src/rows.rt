@@ -3,8 +3,8 @@ ghost use Rattle.std.specs.Prelude.{[], ◌∷◌, refl};
 ghost use Rattle.caf_types.specs.ShapeTree.{unit, unsigned};
 ghost use Rattle.caf_words.specs.Datum.{a_unit, an_unsigned, no_data, more};
 
-use caf_types::{Memory, Seq, TypeId, TypeIds};
-use caf_words::{Row, Value};
+use caf_types::{Memory, Seq, Shape, TypeId, TypeIds};
+use caf_words::{Row, Stop, read_unit, read_word, write_unit, write_word};
 use std::alloc::Global;
 
 /// One element of type `unsigned`.
@@ -24,17 +24,19 @@ impl Row for Number {
         Ok(types)
     }
 
-    fn to_values(&self, alloc: Global) -> Result<Seq<Value>, Memory> {
-        let mut values = Seq::new(alloc);
-        values.push(Value::Unsigned(self.0))?;
-        Ok(values)
+    fn shapes(alloc: Global) -> Result<Seq<Shape>, Memory> {
+        let mut shapes = Seq::new(alloc);
+        shapes.push(Shape::Unsigned)?;
+        Ok(shapes)
     }
 
-    fn from_values(_alloc: Global, values: &Seq<Value>) -> Result<Number, Memory> {
-        match values.as_slice() {
-            [Value::Unsigned(number)] => Ok(Number(*number)),
-            _ => Err(Memory),
-        }
+    fn write_words(&self, words: &mut Vec<u64>) -> Result<(), Memory> {
+        write_word(words, self.0)
+    }
+
+    fn read_words(_alloc: Global, words: &[u64]) -> Result<(Number, &[u64]), Stop> {
+        let (number, rest) = read_word(words)?;
+        Ok((Number(number), rest))
     }
 
     ghost one_shape_each = { refl };
@@ -59,17 +61,19 @@ impl Row for Nothing {
         Ok(types)
     }
 
-    fn to_values(&self, alloc: Global) -> Result<Seq<Value>, Memory> {
-        let mut values = Seq::new(alloc);
-        values.push(Value::Unit)?;
-        Ok(values)
+    fn shapes(alloc: Global) -> Result<Seq<Shape>, Memory> {
+        let mut shapes = Seq::new(alloc);
+        shapes.push(Shape::Unit)?;
+        Ok(shapes)
     }
 
-    fn from_values(_alloc: Global, values: &Seq<Value>) -> Result<Nothing, Memory> {
-        match values.as_slice() {
-            [Value::Unit] => Ok(Nothing),
-            _ => Err(Memory),
-        }
+    fn write_words(&self, words: &mut Vec<u64>) -> Result<(), Memory> {
+        write_unit(words)
+    }
+
+    fn read_words(_alloc: Global, words: &[u64]) -> Result<(Nothing, &[u64]), Stop> {
+        let rest = read_unit(words)?;
+        Ok((Nothing, rest))
     }
 
     ghost one_shape_each = { refl };

@@ -20,12 +20,19 @@ use std::alloc::Global;
 /// While it sleeps it keeps the first input of its interface for later.
 #[derive(Debug, Drop)]
 pub struct Scripted {
+    /// Its own place.
     pub place: u32,
+    /// Whom it sends to.
     pub peers: Places,
+    /// The places of its children.
+    pub reserve: Places,
+    /// What it takes.
     pub interface: Interface,
+    /// What it does, content by content.
     pub acts: Seq<Act>,
     /// How many contents it was given.
     pub done: u64,
+    /// Whether it keeps the first input of its interface for later.
     pub is_asleep: bool,
     /// What it was given besides content.
     pub notes: Seq<Note>,
@@ -42,6 +49,14 @@ impl Behavior for Scripted {
 
     fn interface(&self) -> &Interface {
         &self.interface
+    }
+
+    fn reserve(&self) -> &Places {
+        &self.reserve
+    }
+
+    fn delegates(&self, _types: &TypeIds) -> bool {
+        self.acts.as_slice().iter().any(|act| act.delegates())
     }
 
     fn skips(&self, types: &TypeIds) -> bool {
@@ -61,6 +76,7 @@ impl Behavior for Scripted {
             Input::Response(tag, _) => self.note(alloc, Note::Responded(tag)),
             Input::Failed(tag, sec) => self.note(alloc, Note::Failed(tag, sec)),
             Input::Down(place, reason) => self.note(alloc, Note::Down(place, reason)),
+            Input::Tick => self.note(alloc, Note::Ticked),
         }
     }
 
@@ -78,9 +94,13 @@ impl Behavior for Scripted {
 
     ghost answers_as_declared = { laws.answers_as_declared };
 
+    ghost delegates_as_told = { laws.delegates_as_told };
+
     ghost sends_to_peers = { laws.sends_to_peers };
 
     ghost sends_few = { laws.sends_few };
+
+    ghost ticks_at_ticks = { laws.ticks_at_ticks };
 
     ghost stops_with_exits = { laws.stops_with_exits };
 }
@@ -149,6 +169,16 @@ impl Scripted {
         }
     }
 
+    /// The place of its first child, or its own place.
+    fn first_child(&self) -> u32
+        ensures { result ≡ first_peer self.now.place self.now.reserve }
+    {
+        match self.reserve.as_slice() {
+            [first, ..] => *first,
+            [] => self.place,
+        }
+    }
+
     fn send(
         &self,
         alloc: Global,
@@ -208,6 +238,17 @@ impl Scripted {
                 Ok(Output::Deliver(requester, number, copy))
             }
             Sending::Break(requester, number, sec) => Ok(Output::Break(requester, number, sec)),
+            Sending::Spawn => Ok(Output::Spawn(self.first_child())),
+            Sending::Delay(ticks) => {
+                let copy = message.copy(alloc)?;
+                Ok(Output::Delay(ticks, to, priority, copy))
+            }
+            Sending::AskWithin(ticks, mode, tag, expected) => {
+                let copy = message.copy(alloc)?;
+                let mut types = TypeIds::new(alloc);
+                types.push(expected)?;
+                Ok(Output::Within(ticks, to, priority, mode, tag, types, copy))
+            }
         }
     }
 

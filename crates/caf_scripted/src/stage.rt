@@ -57,6 +57,10 @@ pub(crate) struct Line {
 #[derive(Clone, Copy, Debug)]
 pub(crate) struct Part<'a> {
     pub(crate) peers: &'a [u32],
+    /// The places of its children.
+    pub(crate) reserve: &'a [u32],
+    /// Whether it is a child that nobody has started.
+    pub(crate) is_vacant: bool,
     pub(crate) acts: &'a [Act],
     pub(crate) is_asleep: bool,
     /// Whether its interface has [unit] to [unit] beside [unsigned] to [unsigned].
@@ -114,6 +118,8 @@ pub(crate) fn fan_out(alloc: Global, retains: u8) -> Result<Seq<Post>, MessageFa
     };
     let part = Part {
         peers: &[3, 4, 5],
+        reserve: &[],
+        is_vacant: false,
         acts: &[fan],
         is_asleep: false,
         takes_unit: true,
@@ -174,13 +180,18 @@ impl Stage {
         let scripted = Scripted {
             place: 1,
             peers: Places::of_vec(Vec::from_slice(alloc, part.peers)?),
+            reserve: Places::of_vec(Vec::from_slice(alloc, part.reserve)?),
             interface: interface(alloc, part.takes_unit)?,
             acts: Seq::of_vec(Vec::from_slice(alloc, part.acts)?),
             done: 0,
             is_asleep: part.is_asleep,
             notes: Seq::new(alloc),
         };
-        let actor = Actor::new(alloc, 1, scripted, 0)?;
+        let actor = if part.is_vacant {
+            Actor::vacant(alloc, 1, scripted, 0)?
+        } else {
+            Actor::new(alloc, 1, scripted, 0)?
+        };
         Ok(Stage {
             alloc,
             table,

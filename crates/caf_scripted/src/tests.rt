@@ -81,6 +81,8 @@ fn failure(to: u32, seq: u64, number: u64, priority: Priority, stamp: u64, sec: 
 fn echo(is_asleep: bool, acts: &[Act]) -> Part {
     Part {
         peers: &[],
+        reserve: &[],
+        is_vacant: false,
         acts,
         is_asleep,
         takes_unit: true,
@@ -142,6 +144,8 @@ fn a_skipped_request_is_answered_after_the_wake(rt: HostRuntime) -> Result<(), F
 fn a_request_outside_the_interface_is_refused(rt: HostRuntime) -> Result<(), Fail> {
     let calc = Part {
         peers: &[],
+        reserve: &[],
+        is_vacant: false,
         acts: &[],
         is_asleep: false,
         takes_unit: false,
@@ -171,6 +175,8 @@ fn a_response_of_other_types_is_an_error(rt: HostRuntime) -> Result<(), Fail> {
     let acts = [ask(70, 3), ask(71, 2)];
     let asker = Part {
         peers: &[5],
+        reserve: &[],
+        is_vacant: false,
         acts: acts.as_slice(),
         is_asleep: false,
         takes_unit: true,
@@ -208,6 +214,8 @@ fn the_last_awaited_response_comes_first(rt: HostRuntime) -> Result<(), Fail> {
     }];
     let awaiting = Part {
         peers: &[5],
+        reserve: &[],
+        is_vacant: false,
         acts: acts.as_slice(),
         is_asleep: false,
         takes_unit: true,
@@ -251,6 +259,8 @@ fn a_quit_answers_what_it_leaves(rt: HostRuntime) -> Result<(), Fail> {
     let acts = [link, Act::only(Reply::Hold), leave()];
     let quitter = Part {
         peers: &[3],
+        reserve: &[],
+        is_vacant: false,
         acts: acts.as_slice(),
         is_asleep: false,
         takes_unit: true,
@@ -313,6 +323,8 @@ fn a_held_request_is_delivered_and_another_delegated(rt: HostRuntime) -> Result<
     let acts = [Act::only(Reply::Hold), settle];
     let holder = Part {
         peers: &[8],
+        reserve: &[],
+        is_vacant: false,
         acts: acts.as_slice(),
         is_asleep: false,
         takes_unit: true,
@@ -327,6 +339,91 @@ fn a_held_request_is_delivered_and_another_delegated(rt: HostRuntime) -> Result<
     ];
     let played = play(rt.alloc(), holder, letters.as_slice())?;
     assert_eq!(rt; played.lines.as_slice(), expected.as_slice());
+    Ok(())
+}
+
+// ---- ticks and children
+
+fn within(ticks: u32, tag: u32) -> Option<Sending> {
+    Some(Sending::AskWithin(ticks, Mode::Multiplexed, tag, TypeId(2)))
+}
+
+/// Requests 1 and 2 fail at the first and the second tick, by the due count. The late response to 1 is
+/// dropped, and what was delayed by two ticks is sent at the second one.
+#[test]
+fn ticks_end_requests_and_send_what_was_delayed(rt: HostRuntime) -> Result<(), Fail> {
+    let acts = [
+        Act {
+            sending: within(1, 70),
+            afterwards: within(2, 71),
+            ..Act::only(Reply::Ignore)
+        },
+        Act {
+            sending: Some(Sending::Delay(2)),
+            ..Act::only(Reply::Ignore)
+        },
+    ];
+    let waiting = Part {
+        peers: &[5],
+        reserve: &[],
+        is_vacant: false,
+        acts: acts.as_slice(),
+        is_asleep: false,
+        takes_unit: true,
+    };
+    let letters = [
+        tell(0, 2, What::Number(3)),
+        tell(0, 2, What::Number(4)),
+        notice(1, 0, Notice::Tick(0)),
+        response(2, 1, What::Number(9)),
+        notice(3, 0, Notice::Tick(0)),
+        notice(4, 0, Notice::Tick(0)),
+    ];
+    let expected = [
+        line(5, 0, mid(1, 1, false), Priority::Normal, 2, What::Number(3)),
+        line(5, 1, mid(1, 2, false), Priority::Normal, 2, What::Number(3)),
+        line(5, 2, mid(1, 0, false), Priority::Normal, 5, What::Number(4)),
+    ];
+    let notes = [
+        Note::Failed(70, Sec::RequestTimeout),
+        Note::Failed(71, Sec::RequestTimeout),
+    ];
+    let played = play(rt.alloc(), waiting, letters.as_slice())?;
+    assert_eq!(rt; played.lines.as_slice(), expected.as_slice());
+    assert_eq!(rt; played.notes.as_slice(), notes.as_slice());
+    assert_eq!(rt; played.handled, 6);
+    Ok(())
+}
+
+/// A child keeps content until it begins, and starts its own child once.
+#[test]
+fn a_child_keeps_content_until_it_begins(rt: HostRuntime) -> Result<(), Fail> {
+    let spawn = Act {
+        sending: Some(Sending::Spawn),
+        afterwards: Some(Sending::Spawn),
+        ..Act::only(Reply::Echo)
+    };
+    let acts = [spawn];
+    let child = Part {
+        peers: &[],
+        reserve: &[6],
+        is_vacant: true,
+        acts: acts.as_slice(),
+        is_asleep: false,
+        takes_unit: true,
+    };
+    let letters = [
+        request(0, 2, 1, Priority::Normal, What::Number(7)),
+        notice(1, 2, Notice::Begin(2)),
+        notice(2, 2, Notice::Begin(2)),
+    ];
+    let expected = [
+        told(6, 0, 3, Notice::Begin(1)),
+        line(2, 0, mid(2, 1, true), Priority::Normal, 3, What::Number(7)),
+    ];
+    let played = play(rt.alloc(), child, letters.as_slice())?;
+    assert_eq!(rt; played.lines.as_slice(), expected.as_slice());
+    assert_eq!(rt; played.handled, 3);
     Ok(())
 }
 

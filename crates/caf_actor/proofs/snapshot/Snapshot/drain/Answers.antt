@@ -3,8 +3,9 @@ use Rattle.caf_types.specs.Table.{shape_at}
 use Rattle.caf_types.specs.TypeTable.{seen}
 use Rattle.caf_message.specs.declared.envelope.Taken.{Taken}
 use Rattle.caf_message.specs.Envelope.{EnvelopeFits, plain_envelope}
+use Rattle.caf_actor.specs.PlainForms.{reached}
 use Rattle.caf_actor.specs.declared.snapshot.Snapshot.{Snapshot}
-use Rattle.caf_actor.specs.Snapshot.{Handled, cached}
+use Rattle.caf_actor.specs.Snapshot.{Handled, with_snapshot, cached}
 use Rattle.caf_actor.specs.Drain.{drain}
 use Rattle.caf_mailbox.proofs.NextLemmas.{AllCached}
 use Rattle.caf_actor.proofs.CachedLemmas.{left_envelope, all_cached_one, cached_one}
@@ -16,20 +17,20 @@ loop-envelope-smaller g c =
     let rules = g.B.Behavior.rules in
     let left = left_envelope rules (λ (e : Taken). Unit {0}) c.loop-envelope.self (plain_envelope c.in-Some.envelope, c.take_next.new.self) (sym c.in-Some.ensures.next) in
     let fewer = left.shorter in
-    let less = cached_one rules (c.take_next.new.self, c.loop-envelope.posts) (plain_envelope c.in-Some.envelope) in
-    let after = ap (λ t. cached t.0) c.in_ok-handle.ensures in
+    let less = cached_one rules (reached c.take_next.new.self c.loop-envelope.posts) (plain_envelope c.in-Some.envelope) in
+    let after = ap (λ (t : Handled g.row.B.Denot). cached t.snapshot) c.in_ok-handle.ensures in
     omega arith
 
 pub loop-envelope-preserved : goal.loop-envelope-preserved
 loop-envelope-preserved g c =
     let rules = g.B.Behavior.rules in
     let shape_of = shape_at (seen c.args.table.now) in
-    let t : Handled g.row.B.Denot = (c.loop-envelope.self, c.loop-envelope.posts) in
+    let t : Handled g.row.B.Denot = reached c.loop-envelope.self c.loop-envelope.posts in
     let p : Taken × Snapshot g.row.B.Denot = (plain_envelope c.in-Some.envelope, c.take_next.new.self) in
     let left = left_envelope rules (EnvelopeFits shape_of) c.loop-envelope.self p (sym c.in-Some.ensures.next) in
     let others = left.others (c.loop-envelope.invariant.fits.urgent, c.loop-envelope.invariant.fits.normal) in
-    let fit = all_cached_one rules (EnvelopeFits shape_of) (p.1, t.1) p.0 others in
-    let after = subst (λ (u : Handled g.row.B.Denot). AllCached (EnvelopeFits shape_of) u.0.caches) c.in_ok-handle.ensures fit in
+    let fit = all_cached_one rules (EnvelopeFits shape_of) (with_snapshot t p.1) p.0 others in
+    let after = subst (λ (u : Handled g.row.B.Denot). AllCached (EnvelopeFits shape_of) u.snapshot.caches) c.in_ok-handle.ensures fit in
     record {
       same = sym (drain_step rules t p (sym c.in-Some.ensures.next) ∙ ap (drain rules) c.in_ok-handle.ensures) ∙ c.loop-envelope.invariant.same;
       fits = record { urgent = after.0; normal = after.1 };

@@ -1,6 +1,7 @@
 use Rattle.std.proofs.Common.{◌≡◌}
 use Rattle.caf_types.specs.Table.{shape_at}
 use Rattle.caf_types.specs.TypeTable.{seen}
+use Rattle.caf_actor.specs.PlainForms.{reached}
 use Rattle.caf_actor.specs.Actor.{CachesFit}
 use Rattle.caf_actor.specs.Snapshot.{cached}
 use Rattle.caf_actor.specs.Drain.{drain}
@@ -8,7 +9,7 @@ use Rattle.caf_actor.proofs.snapshot.Snapshot.drain.Given as goal
 
 abbrev pub invariant-loop-envelope : goal.invariant-loop-envelope
 invariant-loop-envelope g l = record {
-  same : drain g.B.Behavior.rules (l.self, l.posts) ≡ drain g.B.Behavior.rules (l.fn.self, l.fn.posts);
+  same : drain g.B.Behavior.rules (reached l.self l.posts) ≡ drain g.B.Behavior.rules (reached l.fn.self l.fn.posts);
   fits : CachesFit (shape_at (seen l.table)) l.self.caches;
 }
 

@@ -3,7 +3,7 @@ use Rattle.std.specs.List.{AllByRecursion}
 use Rattle.caf_message.specs.declared.envelope.Taken.{Taken}
 use Rattle.caf_message.specs.Envelope.{plain_envelope}
 use Rattle.caf_actor.specs.Drain.{greatest_stamp}
-use Rattle.caf_actor.proofs.draining.stamp_due.Given as goal
+use Rattle.caf_actor.proofs.drain.stamp_due.Given as goal
 
 abbrev pub invariant-loop-envelope : goal.invariant-loop-envelope
 invariant-loop-envelope l = record {

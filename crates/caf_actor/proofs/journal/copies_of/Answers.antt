@@ -3,7 +3,7 @@ use Rattle.std.proofs.lemmas.List.{get_or-map, take_more, length-map}
 use Rattle.caf_message.specs.declared.envelope.Taken.{Taken}
 use Rattle.caf_message.specs.Envelope.{plain_envelope}
 use Rattle.caf_mailbox.proofs.SearchLemmas.{map_set_kept}
-use Rattle.caf_actor.proofs.draining.copies_of.Goals as goal
+use Rattle.caf_actor.proofs.journal.copies_of.Goals as goal
 
 pub returns-in_err-copy-clause-kept : goal.returns-in_err-copy-clause-kept
 returns-in_err-copy-clause-kept c =

@@ -1,6 +1,6 @@
 use Rattle.std.proofs.Common.{◌≡◌, take, map}
 use Rattle.caf_message.specs.Envelope.{plain_envelope}
-use Rattle.caf_actor.proofs.draining.copies_of.Given as goal
+use Rattle.caf_actor.proofs.journal.copies_of.Given as goal
 
 abbrev pub invariant-loop-i : goal.invariant-loop-i
 invariant-loop-i l = record {

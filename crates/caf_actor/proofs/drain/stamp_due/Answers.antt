@@ -5,7 +5,7 @@ use Rattle.caf_message.specs.declared.envelope.Envelope.{Envelope}
 use Rattle.caf_message.specs.Envelope.{plain_envelope}
 use Rattle.caf_actor.specs.Drain.{greatest_stamp}
 use Rattle.caf_actor.proofs.ListLemmas.{next_item}
-use Rattle.caf_actor.proofs.draining.stamp_due.Goals as goal
+use Rattle.caf_actor.proofs.drain.stamp_due.Goals as goal
 
 pub loop-envelope-preserved : goal.loop-envelope-preserved
 loop-envelope-preserved c =
