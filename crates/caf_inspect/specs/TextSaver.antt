@@ -1,7 +1,7 @@
 -- The state of the text saver.
 use Rattle.std.specs.Prelude.{◌≡◌, List, [], ◌∷◌, string_bytes}
-use Rattle.caf_inspect.specs.Event.{Event}
-use Rattle.caf_inspect.specs.Range.{AreInRange}
+use Rattle.caf_events.specs.Event.{Event}
+use Rattle.caf_events.specs.Range.{AreInRange}
 use Rattle.caf_inspect.specs.TextStack.{Frame, in_list, in_object, State, state, steps}
 use Rattle.caf_inspect.specs.declared.text_saver.Open.{Open}
 use Rattle.caf_inspect.specs.declared.text_saver.Open.TheVariants as parts

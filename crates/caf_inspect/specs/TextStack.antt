@@ -2,8 +2,8 @@
 use Rattle.std.specs.Prelude.{ℕ, zero, suc, List, [], ◌∷◌, ◌++◌}
 use Rattle.caf_text.specs.TextForm.{comma, colon, scalar_text}
 use Rattle.caf_words.specs.Datum.{a_unit, a_flag, an_unsigned, a_signed, a_text, some_bytes, a_place}
-use Rattle.caf_inspect.specs.Event as event
-use Rattle.caf_inspect.specs.Event.{Event}
+use Rattle.caf_events.specs.Event as event
+use Rattle.caf_events.specs.Event.{Event}
 
 -- an open part: how many values are missing behind the next one
 pub data Frame : Type 0 where

@@ -2,8 +2,8 @@
 use Rattle.std.specs.Prelude.{◌≡◌, ℕ, List, [], ◌∷◌, flat_map, length}
 use Rattle.std.specs.Int.{w64, cast_unsigned}
 use Rattle.caf_words.specs.Spelling.{bit, packed}
-use Rattle.caf_inspect.specs.Event.{Event, unit, flag, unsigned, signed, text, bytes, place, list, object, field}
-use Rattle.caf_inspect.specs.Range.{AreInRange}
+use Rattle.caf_events.specs.Event.{Event, unit, flag, unsigned, signed, text, bytes, place, list, object, field}
+use Rattle.caf_events.specs.Range.{AreInRange}
 
 -- a field's name has none
 abbrev pub words_of : Event → List ℕ

@@ -4,10 +4,10 @@ ghost use Rattle.caf_types.specs.ShapeTree.{ShapeTree};
 ghost use Rattle.caf_types.specs.Shape.{tree};
 ghost use Rattle.caf_types.specs.Table.{shape_at};
 ghost use Rattle.caf_types.specs.TypeTable.{seen};
-ghost use Rattle.caf_inspect.specs.JsonForm.{HasJson};
-ghost use Rattle.caf_inspect.specs.JsonReading.{unjson};
-ghost use Rattle.caf_inspect.specs.Left.{json_left};
-ghost use Rattle.caf_inspect.specs.LoadAnswer.{Started};
+ghost use Rattle.caf_json.specs.Form.{HasJson};
+ghost use Rattle.caf_json.specs.Reading.{unjson};
+ghost use Rattle.caf_inspect.specs.Loader.{json_left};
+ghost use Rattle.caf_events.specs.LoadAnswer.{Started};
 
 use crate::json_reading::value_of;
 use crate::queue::EventQueue;

@@ -2,10 +2,10 @@ ghost use Rattle.std.specs.Prelude.{◌≡◌, List, ◌++◌, true, Some, Ok};
 ghost use Rattle.serde_json.specs.Data.{Data as Json};
 ghost use Rattle.caf_types.specs.ShapeTree.{ShapeTree};
 ghost use Rattle.caf_words.specs.Datum.{Datum, fits};
-ghost use Rattle.caf_inspect.specs.Event.{Event, events};
-ghost use Rattle.caf_inspect.specs.JsonForm.{HasJson};
-ghost use Rattle.caf_inspect.specs.JsonReading.{unjson};
-ghost use Rattle.caf_inspect.specs.Taking.{taking};
+ghost use Rattle.caf_events.specs.Event.{Event, events};
+ghost use Rattle.caf_json.specs.Form.{HasJson};
+ghost use Rattle.caf_json.specs.Reading.{unjson};
+ghost use Rattle.caf_events.specs.Taking.{taking};
 
 /// The events of a value of a shape are taken as that value, whatever follows them.
 pub fn events_are_taken()

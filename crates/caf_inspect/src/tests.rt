@@ -3,9 +3,9 @@ ghost use Rattle.caf_types.specs.ShapeTree.{unit, flag, unsigned, signed, text, 
 ghost use Rattle.caf_types.specs.Table.{shape_at, with_block, built_in, named};
 ghost use Rattle.caf_types.specs.TypeTable.{seen};
 ghost use Rattle.caf_words.specs.Datum.{a_unit, a_flag, an_unsigned, a_signed, a_text, some_bytes, a_place, a_list, an_object, more, no_data, data_of};
-ghost use Rattle.caf_inspect.specs.Event as events;
-ghost use Rattle.caf_inspect.specs.Fitting.{both_hold, all_hold};
-ghost use Rattle.caf_inspect.specs.Tells.{Tells};
+ghost use Rattle.caf_events.specs.Event as events;
+ghost use Rattle.caf_events.specs.Fitting.{both_hold, all_hold};
+ghost use Rattle.caf_events.specs.Tells.{Tells};
 
 use crate::{
     Inspect, JsonLoader, Load, LoadFault, Save, WordLoader, from_json, from_text, from_words,

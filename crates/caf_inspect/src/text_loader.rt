@@ -4,8 +4,8 @@ ghost use Rattle.caf_types.specs.Shape.{tree};
 ghost use Rattle.caf_types.specs.Table.{shape_at};
 ghost use Rattle.caf_types.specs.TypeTable.{seen};
 ghost use Rattle.caf_text.specs.TextForm.{HasText};
-ghost use Rattle.caf_inspect.specs.Left.{text_left};
-ghost use Rattle.caf_inspect.specs.LoadAnswer.{Started, TextFailsAt, AtLength};
+ghost use Rattle.caf_inspect.specs.Loader.{text_left};
+ghost use Rattle.caf_events.specs.LoadAnswer.{Started, TextFailsAt, AtLength};
 
 use crate::queue::EventQueue;
 use crate::{Load, LoadFault};

@@ -2,7 +2,7 @@ ghost use Rattle.std.specs.Prelude.{◌≡◌, true, List, ◌++◌, [], ◌∷�
 ghost use Rattle.caf_types.specs.ShapeTree.{ShapeTree};
 ghost use Rattle.caf_words.specs.Datum.{Datum, fits};
 ghost use Rattle.caf_text.specs.TextForm.{text_form, HasText};
-ghost use Rattle.caf_inspect.specs.Event.{events};
+ghost use Rattle.caf_events.specs.Event.{events};
 ghost use Rattle.caf_inspect.specs.TextSaver.{frame_of, frames_of, text_state, SavesText};
 ghost use Rattle.caf_inspect.specs.TextStack.{give, in_list, in_object, opened, state};
 

@@ -3,10 +3,10 @@ ghost use Rattle.serde_json.specs.View.{view};
 ghost use Rattle.caf_types.specs.Table.{shape_at};
 ghost use Rattle.caf_types.specs.TypeTable.{seen};
 ghost use Rattle.caf_words.specs.Spelling.{Spells};
-ghost use Rattle.caf_inspect.specs.JsonForm.{HasJson, names_differ};
-ghost use Rattle.caf_inspect.specs.JsonReading.{unjson};
+ghost use Rattle.caf_json.specs.Form.{HasJson, names_differ};
+ghost use Rattle.caf_json.specs.Reading.{unjson};
 ghost use Rattle.caf_text.specs.TextForm.{HasText};
-ghost use Rattle.caf_inspect.specs.LoadAnswer.{Refused, TextFailsAt, WordsFailAt};
+ghost use Rattle.caf_events.specs.LoadAnswer.{Refused, TextFailsAt, WordsFailAt};
 
 use crate::{
     Inspect, JsonLoader, JsonSaver, LoadFault, TextLoader, TextSaver, WordLoader, WordSaver,

@@ -4,8 +4,8 @@ ghost use Rattle.caf_types.specs.Table.{shape_at};
 ghost use Rattle.caf_types.specs.TypeTable.{seen};
 ghost use Rattle.caf_words.specs.Spelling.{Spells};
 ghost use Rattle.caf_words.specs.Value.{datum};
-ghost use Rattle.caf_inspect.specs.Left.{word_left};
-ghost use Rattle.caf_inspect.specs.LoadAnswer.{Started, Refused, WordsFailAt, Placed};
+ghost use Rattle.caf_inspect.specs.Loader.{word_left};
+ghost use Rattle.caf_events.specs.LoadAnswer.{Started, Refused, WordsFailAt, Placed};
 
 use crate::queue::EventQueue;
 use crate::{Load, LoadFault};

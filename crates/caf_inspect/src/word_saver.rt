@@ -3,7 +3,7 @@ ghost use Rattle.caf_types.specs.ShapeTree.{ShapeTree};
 ghost use Rattle.caf_words.specs.Datum.{Datum, fits, a_text, some_bytes};
 ghost use Rattle.caf_words.specs.Spelling.{spelling, Spells};
 ghost use Rattle.caf_words.specs.Value.{datum};
-ghost use Rattle.caf_inspect.specs.Event.{Event, events};
+ghost use Rattle.caf_events.specs.Event.{Event, events};
 ghost use Rattle.caf_inspect.specs.WordForm.{all_words, SavesWords};
 
 use crate::Save;

@@ -1,8 +1,8 @@
 use Rattle.caf_types.specs.Shape.{tree}
 use Rattle.caf_words.specs.Value.{datum}
 use Rattle.serde_json.specs.View.{view}
-use Rattle.caf_inspect.proofs.JsonLaws.{has_json}
-use Rattle.caf_inspect.proofs.JsonStarts.{refused}
+use Rattle.caf_json.proofs.FormLemmas.{has_json}
+use Rattle.caf_json.proofs.RefusalLemmas.{refused}
 use Rattle.caf_inspect.proofs.json_loader.read_json.Goals as goal
 
 pub returns-in-Err : goal.returns-in-Err

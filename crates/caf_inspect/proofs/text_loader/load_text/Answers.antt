@@ -1,6 +1,6 @@
 use Rattle.caf_types.specs.Shape.{tree}
 use Rattle.caf_words.specs.Value.{datum}
-use Rattle.caf_inspect.proofs.TextStarts.{text_refused}
+use Rattle.caf_inspect.proofs.TextLoaderLemmas.{text_refused}
 use Rattle.caf_inspect.proofs.text_loader.load_text.Goals as goal
 
 pub returns-in-Err : goal.returns-in-Err

@@ -1,6 +1,6 @@
 use Rattle.std.proofs.Common.{◌∙◌, ap}
 use Rattle.caf_inspect.specs.TextSaver.{frames_of}
-use Rattle.caf_inspect.proofs.TextTelling.{last_first}
+use Rattle.caf_inspect.proofs.TextTellingLemmas.{last_first}
 use Rattle.caf_inspect.proofs.text_saver.open_part.Goals as goal
 
 pub returns : goal.returns

@@ -2,10 +2,10 @@ use Rattle.std.proofs.Common.{◌≡◌, Some, sym, subst}
 use Rattle.caf_types.specs.Table.{shape_at}
 use Rattle.caf_types.specs.TypeTable.{seen}
 use Rattle.serde_json.specs.View.{view}
-use Rattle.caf_inspect.specs.JsonForm.{HasJson}
-use Rattle.caf_inspect.specs.Left.{json_left}
-use Rattle.caf_inspect.proofs.OneValue.{can_be_taken, loaded}
-use Rattle.caf_inspect.proofs.JsonLaws.{json_is_of}
+use Rattle.caf_json.specs.Form.{HasJson}
+use Rattle.caf_inspect.specs.Loader.{json_left}
+use Rattle.caf_events.proofs.OneValueLemmas.{can_be_taken, loaded}
+use Rattle.caf_json.proofs.FormLemmas.{json_is_of}
 use Rattle.caf_inspect.proofs.whole.from_json.Goals as goal
 
 pub load-requires : goal.load-requires

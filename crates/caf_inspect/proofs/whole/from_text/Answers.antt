@@ -2,9 +2,9 @@ use Rattle.std.proofs.Common.{◌≡◌, Some, sym, subst}
 use Rattle.caf_types.specs.Table.{shape_at}
 use Rattle.caf_types.specs.TypeTable.{seen}
 use Rattle.caf_text.specs.TextForm.{HasText}
-use Rattle.caf_inspect.specs.Left.{text_left}
-use Rattle.caf_inspect.proofs.OneValue.{can_be_taken, loaded}
-use Rattle.caf_inspect.proofs.TextStarts.{value_is_of}
+use Rattle.caf_inspect.specs.Loader.{text_left}
+use Rattle.caf_events.proofs.OneValueLemmas.{can_be_taken, loaded}
+use Rattle.caf_inspect.proofs.TextLoaderLemmas.{value_is_of}
 use Rattle.caf_inspect.proofs.whole.from_text.Goals as goal
 
 pub load-requires : goal.load-requires

@@ -2,8 +2,8 @@ use Rattle.std.proofs.Common.{◌≡◌, Some, sym, subst}
 use Rattle.caf_types.specs.Table.{shape_at}
 use Rattle.caf_types.specs.TypeTable.{seen}
 use Rattle.caf_words.specs.Spelling.{Spells}
-use Rattle.caf_inspect.specs.Left.{word_left}
-use Rattle.caf_inspect.proofs.OneValue.{can_be_taken, loaded, spelled_is_of}
+use Rattle.caf_inspect.specs.Loader.{word_left}
+use Rattle.caf_events.proofs.OneValueLemmas.{can_be_taken, loaded, spelled_is_of}
 use Rattle.caf_inspect.proofs.whole.from_words.Goals as goal
 
 pub load-requires : goal.load-requires

@@ -1,10 +1,10 @@
 use Rattle.std.proofs.Common.{◌≡◌, ◌∙◌, Err, subst}
 use Rattle.serde_json.specs.View.{view}
-use Rattle.caf_inspect.specs.JsonForm.{HasJson}
-use Rattle.caf_inspect.specs.JsonReading.{unjson}
-use Rattle.caf_inspect.specs.Left.{json_left}
-use Rattle.caf_inspect.specs.LoadAnswer.{Started}
-use Rattle.caf_inspect.proofs.OneValue.{same_form}
+use Rattle.caf_json.specs.Form.{HasJson}
+use Rattle.caf_json.specs.Reading.{unjson}
+use Rattle.caf_inspect.specs.Loader.{json_left}
+use Rattle.caf_events.specs.LoadAnswer.{Started}
+use Rattle.caf_events.proofs.OneValueLemmas.{same_form}
 use Rattle.caf_inspect.proofs.json_loader.JsonLoader.start.Goals as goal
 
 pub returns : goal.returns

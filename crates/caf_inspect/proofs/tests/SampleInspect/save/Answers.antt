@@ -1,7 +1,7 @@
 use Rattle.std.proofs.Common.{[], ◌∷◌, codes, subst}
-use Rattle.caf_inspect.specs.Event.{field, text, bytes, place}
-use Rattle.caf_inspect.specs.Tells.{Tells}
-use Rattle.caf_inspect.proofs.Telling.{tells_cons, tells_append, tells_none}
+use Rattle.caf_events.specs.Event.{field, text, bytes, place}
+use Rattle.caf_events.specs.Tells.{Tells}
+use Rattle.caf_events.proofs.TellingLemmas.{tells_cons, tells_append, tells_none}
 use Rattle.caf_inspect.proofs.tests.SampleInspect.save.Goals as goal
 
 pub returns : goal.returns

@@ -1,4 +1,4 @@
-use Rattle.caf_inspect.proofs.Telling.{tells_cons}
+use Rattle.caf_events.proofs.TellingLemmas.{tells_cons}
 use Rattle.caf_inspect.proofs.tests.SummaryInspect.save.Goals as goal
 
 pub returns : goal.returns

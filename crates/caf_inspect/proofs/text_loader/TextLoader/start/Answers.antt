@@ -1,8 +1,8 @@
 use Rattle.std.proofs.Common.{◌∙◌, subst}
 use Rattle.caf_text.specs.TextForm.{HasText}
-use Rattle.caf_inspect.specs.Left.{text_left}
-use Rattle.caf_inspect.specs.LoadAnswer.{Started, TextFailsAt}
-use Rattle.caf_inspect.proofs.OneValue.{same_form}
+use Rattle.caf_inspect.specs.Loader.{text_left}
+use Rattle.caf_events.specs.LoadAnswer.{Started, TextFailsAt}
+use Rattle.caf_events.proofs.OneValueLemmas.{same_form}
 use Rattle.caf_inspect.proofs.text_loader.TextLoader.start.Goals as goal
 
 pub returns : goal.returns

@@ -1,7 +1,7 @@
 use Rattle.std.proofs.Common.{◌∙◌, ap}
 use Rattle.caf_inspect.specs.TextSaver.{frames_of}
 use Rattle.caf_inspect.specs.TextStack.{give}
-use Rattle.caf_inspect.proofs.TextTelling.{text_told}
+use Rattle.caf_inspect.proofs.TextTellingLemmas.{text_told}
 use Rattle.caf_inspect.proofs.text_saver.TextSaverSave.bytes.Goals as goal
 
 pub returns : goal.returns

@@ -1,5 +1,5 @@
 use Rattle.std.proofs.Common.{arith}
-use Rattle.caf_inspect.proofs.TextTelling.{text_told}
+use Rattle.caf_inspect.proofs.TextTellingLemmas.{text_told}
 use Rattle.caf_inspect.proofs.text_saver.TextSaverSave.object.Goals as goal
 
 pub returns : goal.returns

@@ -1,7 +1,7 @@
 use Rattle.std.proofs.Common.{◌∙◌, ◌++◌, ap, string_bytes}
 use Rattle.caf_inspect.specs.TextSaver.{frames_of}
 use Rattle.caf_inspect.specs.TextStack.{give}
-use Rattle.caf_inspect.proofs.TextTelling.{text_told}
+use Rattle.caf_inspect.proofs.TextTellingLemmas.{text_told}
 use Rattle.std.specs.Int.{w64}
 use Rattle.std.proofs.lemmas.Int.{to_z-of_z}
 use Rattle.caf_words.specs.Datum.{a_signed}

@@ -1,7 +1,7 @@
 use Rattle.std.proofs.Common.{◌∙◌, sym, subst}
 use Rattle.caf_words.specs.Spelling.{Spells}
-use Rattle.caf_inspect.proofs.OfShapes.{is_of}
-use Rattle.caf_inspect.proofs.Words.{all_saved, all_spell}
+use Rattle.caf_events.proofs.OfShapeLemmas.{is_of}
+use Rattle.caf_inspect.proofs.WordSaverLemmas.{all_saved, all_spell}
 use Rattle.caf_inspect.proofs.word_saver.WordSaver.finish.Goals as goal
 
 pub returns-clause-form : goal.returns-clause-form

@@ -1,6 +1,6 @@
 use Rattle.std.proofs.Common.{ap, ◌∙◌, ◌++◌}
 use Rattle.caf_words.specs.Spelling.{spelling}
-use Rattle.caf_inspect.proofs.WordTelling.{word_told}
+use Rattle.caf_inspect.proofs.WordTellingLemmas.{word_told}
 use Rattle.caf_inspect.proofs.word_saver.WordSaverSave.bytes.Goals as goal
 
 pub returns : goal.returns

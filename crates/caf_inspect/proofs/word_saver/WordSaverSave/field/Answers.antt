@@ -1,5 +1,5 @@
 use Rattle.std.proofs.Common.{◌≡◌, [], refl}
-use Rattle.caf_inspect.proofs.WordTelling.{word_none}
+use Rattle.caf_inspect.proofs.WordTellingLemmas.{word_none}
 use Rattle.caf_inspect.proofs.word_saver.WordSaverSave.field.Goals as goal
 
 pub returns : goal.returns

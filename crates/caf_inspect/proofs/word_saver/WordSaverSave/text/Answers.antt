@@ -1,6 +1,6 @@
 use Rattle.std.proofs.Common.{subst, ◌<◌, ◌^◌, length, ap, ◌∙◌, ◌++◌}
 use Rattle.caf_words.specs.Spelling.{spelling, AreBytes}
-use Rattle.caf_inspect.proofs.WordTelling.{word_told}
+use Rattle.caf_inspect.proofs.WordTellingLemmas.{word_told}
 use Rattle.caf_inspect.proofs.word_saver.WordSaverSave.text.Goals as goal
 
 pub returns : goal.returns

@@ -1,0 +1,8 @@
+pub mod Event
+pub mod Item
+pub mod Range
+pub mod Tells
+pub mod Taking
+pub mod LoadAnswer
+pub mod Queue
+pub mod Fitting

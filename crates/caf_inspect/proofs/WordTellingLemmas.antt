@@ -1,0 +1,23 @@
+-- Telling one event to the word saver.
+use Rattle.std.proofs.Common.{◌≡◌, ℕ, List, [], ◌∷◌, ◌++◌, sym, ap, ◌∙◌}
+use Rattle.std.proofs.lemmas.List.{append-nil}
+use Rattle.std.proofs.lemmas.List.Concat.{flat_map-append}
+use Rattle.caf_events.specs.Event.{Event}
+use Rattle.caf_events.specs.Range.{IsInRange, AreInRange}
+use Rattle.caf_events.specs.Tells.{Tells}
+use Rattle.caf_inspect.specs.WordForm.{words_of, all_words, SavesWords}
+
+pub range_more : (es : List Event) (e : Event) → AreInRange es → IsInRange e → AreInRange (es ++ e ∷ [])
+range_more [] e h i = (i, tt)
+range_more (x ∷ es) e h i = (h.0, range_more es e h.1 i)
+
+pub word_told : {old new : List ℕ} {e : Event} → new ≡ old ++ words_of e → IsInRange e → Tells SavesWords old new (e ∷ [])
+word_told {old = old} {new = new} {e = e} added range = record {
+  after = λ es h. record {
+    form = added ∙ ap (λ (ws : List ℕ). ws ++ words_of e) h.form ∙ ap (λ (ws : List ℕ). all_words es ++ ws) (sym (append-nil (words_of e))) ∙ sym (flat_map-append words_of es (e ∷ []));
+    range = range_more es e h.range range;
+  };
+}
+
+pub word_none : {words : List ℕ} {e : Event} → words_of e ≡ [] → IsInRange e → Tells SavesWords words words (e ∷ [])
+word_none {words = words} {e = e} none range = word_told (sym (append-nil words) ∙ ap (λ (ws : List ℕ). words ++ ws) (sym none)) range
