@@ -1,9 +1,9 @@
 -- What it takes to be a value of a shape, one case a shape: what `fits` tests, in parts.
-use Rattle.std.proofs.Common.{◌≡◌, ℕ, ℤ, ◌<◌, List, Bool, true, false, ◌&&◌, refl, ap, lt-ltb}
+use Rattle.std.proofs.Common.{◌≡◌, ℕ, ℤ, ◌<◌, List, Bool, true, false, ◌&&◌, ◌+◌, refl, ap, ◌∙◌, lt-ltb, arith}
 use borrow.Author.Tests.{ltb-true}
 use Rattle.caf_types.specs.ShapeTree as tree
-use Rattle.caf_types.specs.ShapeTree.{ShapeTree, Parts, no_parts, part}
-use Rattle.caf_words.specs.Datum.{Datum, a_unit, a_flag, an_unsigned, a_signed, a_text, some_bytes, a_place, a_list, an_object, Data, no_data, more, fits, each_fits, all_fit}
+use Rattle.caf_types.specs.ShapeTree.{ShapeTree, Parts, no_parts, part, count_parts}
+use Rattle.caf_words.specs.Datum.{Datum, a_unit, a_flag, an_unsigned, a_signed, a_text, some_bytes, a_place, a_list, an_object, Data, no_data, more, count, fits, each_fits, all_fit}
 
 abbrev pub AllAre : (Datum → Type 0) → Data → Type 0
 AllAre P no_data = Unit {0}
@@ -75,3 +75,7 @@ mutual
   parts_fitting : (ps : Parts) (ds : Data) → PartsAre ps ds → each_fits ps ds ≡ true
   parts_fitting no_parts ds h = rw h refl
   parts_fitting (part name f ps) ds h = rw (h.4) (both_hold (fits f h.0) (each_fits ps h.1) (is_fitting f h.0 h.2) (parts_fitting ps h.1 h.3))
+
+pub count_of : (ps : Parts) (ds : Data) → PartsAre ps ds → count ds ≡ count_parts ps
+count_of no_parts ds h = ap count h
+count_of (part name f ps) ds h = ap count h.4 ∙ (let e = count_of ps h.1 h.3 in omega (arith, e))

@@ -9,7 +9,7 @@ use Rattle.caf_events.specs.Event as event
 use Rattle.caf_events.specs.Event.{Event, events, each_events, part_events}
 use Rattle.caf_json.specs.Stack.{json, each_json, members_json, Frame, in_array, in_object, State, state, give, steps, step}
 use Rattle.caf_events.proofs.OfShapeLemmas.{IsOf, PartsAre, AllAre}
-use Rattle.caf_inspect.proofs.WordSaverLemmas.{count_of}
+use Rattle.caf_events.proofs.OfShapeLemmas.{count_of}
 
 abbrev items_onto : List Json → Items → Items
 items_onto [] its = its
@@ -102,3 +102,7 @@ pub built_whole : (f : ShapeTree) (d : Datum) (fs : List Frame) (last : Json) �
 unfolding last_in
 built_whole f d fs last h is =
     ap last_in (is ∙ ap (steps (state [] null)) (sym (append-nil (events f d))) ∙ all_built f d h [] null [])
+
+-- what the events of one value build
+pub steps_whole : (f : ShapeTree) (d : Datum) → IsOf f d → steps (state [] null) (events f d) ≡ state [] (json f d)
+steps_whole f d h = ap (steps (state [] null)) (sym (append-nil (events f d))) ∙ all_built f d h [] null []

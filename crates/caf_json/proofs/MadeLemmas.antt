@@ -16,7 +16,7 @@ use Rattle.caf_json.specs.Form.{is_declared, are_declared, names_differ, parts_d
 use Rattle.caf_json.specs.Stack.{json, each_json, members_json}
 use Rattle.caf_events.proofs.OfShapeLemmas.{IsOf, PartsAre, AllAre}
 use Rattle.caf_events.specs.Range.{AreInRange}
-use Rattle.caf_inspect.proofs.WordSaverLemmas.{in_front}
+use Rattle.caf_events.proofs.RangeLemmas.{range_split}
 
 both_differ : (a b : Bool) → cond a b false ≡ true → (a ≡ true) × (b ≡ true)
 both_differ true b h = (refl, h)
@@ -94,7 +94,7 @@ each_made : (P : Datum → Type 0) (one : Datum → List Event) (form_of : Datum
     → (ds : Data) → AllAre P ds → AreInRange (each_events one ds) → EachHasJson Q ds (each_json form_of ds)
 each_made P one form_of Q s no_data h r = refl
 each_made P one form_of Q s (more d ds) h r =
-    let p = in_front (one d) (each_events one ds) r in
+    let p = range_split (one d) (each_events one ds) r in
     (form_of d, each_json form_of ds, s d h.0 p.0, each_made P one form_of Q s ds h.1 p.1, refl)
 
 mutual
@@ -120,7 +120,7 @@ mutual
   parts_made no_parts ds ms h r n = h
   parts_made (part name f ps) ds ms h r n =
       let q = subst (λ x. AreInRange (part_events (part name f ps) x)) h.4 r in
-      let p = in_front (events f h.0) (part_events ps h.1) q.1 in
+      let p = range_split (events f h.0) (part_events ps h.1) q.1 in
       let a = none_of (is_declared ps name) (cond (names_differ f) (parts_differ ps) false) n in
       let b = both_differ (names_differ f) (parts_differ ps) a.1 in
       let one = put name (json f h.0) ms in

@@ -11,7 +11,7 @@ use Rattle.serde_json.specs.declared.value.Value.{Value}
 use Rattle.std.proofs.lemmas.List.{drop_more}
 use Rattle.caf_words.specs.Datum.{Datum, Data, more, front_of}
 use Rattle.caf_json.specs.Reading.{Read, ◌>>=◌, then_more, inside, each_read, member_read, parts_read, unjson}
-use Rattle.caf_events.specs.LoadAnswer.{Fails}
+use Rattle.caf_json.specs.Answer.{Fails}
 use Rattle.caf_events.specs.declared.fault.LoadFault.{LoadFault}
 use Rattle.caf_events.specs.declared.fault.LoadFault.TheVariants as faults
 

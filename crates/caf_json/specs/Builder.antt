@@ -1,13 +1,11 @@
--- The state of the JSON saver.
-use Rattle.std.specs.Prelude.{◌≡◌, List, [], ◌∷◌, map}
+-- What a builder of JSON has built.
+use Rattle.std.specs.Prelude.{List, [], ◌∷◌, map}
 use Rattle.serde_json.specs.View.{view, members_view}
-use Rattle.caf_events.specs.Event.{Event}
-use Rattle.caf_events.specs.Range.{AreInRange}
-use Rattle.caf_json.specs.Stack.{Frame, in_array, in_object, State, state, give, steps}
-use Rattle.serde_json.specs.Data.{Data as Json, null}
+use Rattle.caf_json.specs.Stack.{Frame, in_array, in_object, State, state, give}
+use Rattle.serde_json.specs.Data.{Data as Json}
 use Rattle.caf_json.specs.declared.part.Part.{Part}
 use Rattle.caf_json.specs.declared.part.Part.TheVariants as parts
-use Rattle.caf_json.specs.declared.builder.JsonSaver.{JsonSaver}
+use Rattle.caf_json.specs.declared.builder.Builder.{Builder}
 use Rattle.caf_json.specs.declared.builder.Filled.{Filled}
 use Rattle.caf_json.specs.declared.builder.Filled.TheVariants as filled
 
@@ -23,15 +21,15 @@ frames_onto fs (p ∷ ps) = frames_onto (frame_of p ∷ fs) ps
 abbrev pub frames_of : List Part → List Frame
 frames_of ps = frames_onto [] ps
 
-abbrev pub json_state : JsonSaver → State
-json_state saver = state (frames_of saver.parts.items) (view saver.last)
+abbrev pub built : Builder → State
+built builder = state (frames_of builder.parts.items) (view builder.last)
 
 -- what became of an open part: it is still open among those around it, or whole and put into them
 abbrev pub filled_state : List Frame → Json → Filled → State
 filled_state fs last (filled.Open p) = state (frame_of p ∷ fs) last
 filled_state fs last (filled.Whole j) = give fs last (view j)
 
--- the saver is where the events lead
-pub record SavesJson (saver : JsonSaver) (es : List Event) : Type 0 where
-  pub form : json_state saver ≡ steps (state [] null) es
-  pub range : AreInRange es
+-- an array or an object is open
+abbrev pub IsOpen : State → Type 0
+IsOpen (state [] last) = ⊥
+IsOpen (state (f ∷ fs) last) = Unit {0}

@@ -1,27 +1,23 @@
-ghost use Rattle.std.specs.Prelude.{◌≡◌, true, List, ◌++◌, [], ◌∷◌, map, OnOk, IfOk};
+ghost use Rattle.std.specs.Prelude.{◌≡◌, List, ◌++◌, [], ◌∷◌, map, OnOk, OnErr, IfOk, vec_len, true, false};
 ghost use Rattle.serde_json.specs.Data.{null, boolean, number, string, unsigned, array, no_items, object, no_members, put as with_put, Data as JsonData};
 ghost use Rattle.serde_json.specs.Find.{of_integer};
 ghost use Rattle.serde_json.specs.View.{view, members_view};
 ghost use Rattle.hex.specs.Hex.{encode_lower};
-ghost use Rattle.caf_types.specs.ShapeTree.{ShapeTree};
-ghost use Rattle.caf_words.specs.Datum.{Datum, fits};
-ghost use Rattle.caf_events.specs.Event.{events};
-ghost use Rattle.caf_json.specs.Form.{HasJson, names_differ};
-ghost use Rattle.caf_json.specs.Builder.{frame_of, frames_of, json_state, filled_state, SavesJson};
-ghost use Rattle.caf_json.specs.Stack.{json, Frame, give, named, array_given, object_given, opened_array, opened_object, state};
+ghost use Rattle.caf_events.specs.Item.{event_of, events_in};
+ghost use Rattle.caf_json.specs.Builder.{frame_of, frames_of, built, filled_state, IsOpen};
+ghost use Rattle.caf_json.specs.Stack.{Frame, give, named, array_given, object_given, opened_array, opened_object, state, step, steps};
 
-use crate::Save;
-use crate::json_part::Part;
-use crate::range::measured;
+use crate::part::Part;
+use caf_events::Item;
 use caf_types::{Letters, Memory};
 use serde_json::{Map, Value as Json};
 use std::alloc::Global;
 
-/// Saves a value as JSON.
+/// Builds JSON from events, with the arrays and objects that are open on a stack.
 ///
-/// It keeps the arrays and objects that are open, so each event takes its place as it comes.
+/// After want of memory it is broken, unless nothing was open.
 #[derive(Drop)]
-pub struct JsonSaver {
+pub(crate) struct Builder {
     alloc: Global,
     parts: Vec<Part>,
     last: Json,
@@ -84,7 +80,8 @@ fn bytes_json(alloc: Global, bytes: &[u8]) -> Result<Json, Memory>
 }
 
 fn add_part(parts: &mut Vec<Part>, part: Part) -> Result<(), Memory>
-    ensures { OnOk result (parts.new.items ≡ parts.old.items ++ part ∷ []) }
+    ensures added { OnOk result (parts.new.items ≡ parts.old.items ++ part ∷ []) }
+    ensures kept { OnErr result (parts.new.items ≡ parts.old.items) }
 {
     match parts.push(part) {
         Ok(()) => Ok(()),
@@ -93,13 +90,14 @@ fn add_part(parts: &mut Vec<Part>, part: Part) -> Result<(), Memory>
 }
 
 fn open_part(parts: &mut Vec<Part>, part: Part) -> Result<(), Memory>
-    ensures { OnOk result (frames_of parts.new.items ≡ frame_of part ∷ frames_of parts.old.items) }
+    ensures added { OnOk result (frames_of parts.new.items ≡ frame_of part ∷ frames_of parts.old.items) }
+    ensures kept { OnErr result (parts.new.items ≡ parts.old.items) }
 {
     add_part(parts, part)?;
     Ok(())
 }
 
-#[tactic(auto, using(crate::proofs::FillingLemmas::array_whole, crate::proofs::FillingLemmas::array_open))]
+#[tactic(auto, using(crate::proofs::BuilderLemmas::array_whole, crate::proofs::BuilderLemmas::array_open))]
 fn fill_array(missing: u64, items: Vec<Json>, value: Json) -> Result<Filled, Memory>
     ensures { IfOk result (λ filled. (fs : List Frame) → (last : JsonData) →
         filled_state fs last filled ≡ array_given missing (map view items.items ++ view value ∷ []) (give fs last) (λ f. state (f ∷ fs) last)) }
@@ -116,7 +114,7 @@ fn fill_array(missing: u64, items: Vec<Json>, value: Json) -> Result<Filled, Mem
     }
 }
 
-#[tactic(auto, using(crate::proofs::FillingLemmas::object_whole, crate::proofs::FillingLemmas::object_open))]
+#[tactic(auto, using(crate::proofs::BuilderLemmas::object_whole, crate::proofs::BuilderLemmas::object_open))]
 fn fill_object(
     alloc: Global,
     missing: u64,
@@ -170,30 +168,74 @@ fn with_name(alloc: Global, part: Part, name: &str) -> Result<Part, Memory>
     }
 }
 
-impl JsonSaver {
-    /// A saver without events. It takes no memory.
-    pub fn new(alloc: Global) -> JsonSaver
-        ensures { SavesJson result [] }
+impl Builder {
+    /// A builder without events. It takes no memory.
+    pub(crate) fn new(alloc: Global) -> Builder
+        ensures { built result ≡ state [] null }
     {
-        JsonSaver {
+        Builder {
             alloc,
             parts: Vec::new(alloc),
             last: Json::Null,
         }
     }
 
-    /// The JSON form of the one value that was saved. It takes no memory.
-    pub fn finish(self) -> Json
-        requires { (f : ShapeTree) × (d : Datum) × (fits f d ≡ true) × SavesJson self (events f d) }
-        ensures form { (f : ShapeTree) → (d : Datum) → fits f d ≡ true → SavesJson self (events f d) → view result ≡ json f d }
-        ensures has { (f : ShapeTree) → (d : Datum) → fits f d ≡ true → SavesJson self (events f d) → names_differ f ≡ true → HasJson f d (view result) }
+    /// What events build.
+    pub(crate) fn of_events(alloc: Global, items: &[Item]) -> Result<Builder, Memory>
+        ensures { IfOk result (λ builder. built builder ≡ steps (state [] null) (events_in items.now)) }
+    {
+        let mut builder = Builder::new(alloc);
+        for item in items {
+            builder.take(item)?;
+        }
+        Ok(builder)
+    }
+
+    /// The last whole value.
+    pub(crate) fn finish(self) -> Json
+        ensures { view result ≡ view self.last }
     {
         self.last
     }
 
+    /// Whether an array or an object is open.
+    pub(crate) fn is_open(&self) -> bool
+        ensures open { result ≡ true → IsOpen (built self.now) }
+        ensures none { result ≡ false → vec_len self.now.parts ≡ 0 }
+    {
+        let parts = self.parts.as_slice();
+        !parts.is_empty()
+    }
+
+    /// Builds the event in.
+    pub(crate) fn take(&mut self, item: &Item) -> Result<(), Memory>
+        ensures added { OnOk result (built self.new ≡ step (built self.old) (event_of item.now)) }
+        ensures kept { OnErr result (vec_len self.old.parts ≡ 0 → built self.new ≡ built self.old) }
+    {
+        match item {
+            Item::Unit => self.put(null_json()),
+            Item::Flag(flag) => self.put(flag_json(*flag)),
+            Item::Unsigned(number) => self.put(unsigned_json(*number)),
+            Item::Signed(number) => self.put(signed_json(*number)),
+            Item::Text(text) => {
+                let json = text_json(self.alloc, text.as_str())?;
+                self.put(json)
+            }
+            Item::Bytes(bytes) => {
+                let json = bytes_json(self.alloc, bytes.as_slice())?;
+                self.put(json)
+            }
+            Item::Place(place) => self.put(unsigned_json(*place as u64)),
+            Item::List(length) => self.open_list(*length),
+            Item::Object(fields) => self.open_object(*fields),
+            Item::Field(name) => self.name_next(name.as_str()),
+        }
+    }
+
     /// Puts a value into the innermost open part, and what is then whole into the one around it.
     fn put(&mut self, value: Json) -> Result<(), Memory>
-        ensures { OnOk result (json_state self.new ≡ give (frames_of self.old.parts.items) (view self.old.last) (view value)) }
+        ensures added { OnOk result (built self.new ≡ give (frames_of self.old.parts.items) (view self.old.last) (view value)) }
+        ensures kept { OnErr result (vec_len self.old.parts ≡ 0 → built self.new ≡ built self.old) }
     {
         let mut value = value;
         while let Some(part) = self.parts.pop() {
@@ -209,9 +251,10 @@ impl JsonSaver {
         Ok(())
     }
 
-    #[tactic(auto, using(crate::proofs::FillingLemmas::array_none, crate::proofs::FillingLemmas::array_some))]
+    #[tactic(auto, using(crate::proofs::BuilderLemmas::array_none, crate::proofs::BuilderLemmas::array_some))]
     fn open_list(&mut self, length: u64) -> Result<(), Memory>
-        ensures { OnOk result (json_state self.new ≡ opened_array length (frames_of self.old.parts.items) (view self.old.last)) }
+        ensures added { OnOk result (built self.new ≡ opened_array length (frames_of self.old.parts.items) (view self.old.last)) }
+        ensures kept { OnErr result (vec_len self.old.parts ≡ 0 → built self.new ≡ built self.old) }
     {
         if length == 0 {
             self.put(empty_array(self.alloc))?;
@@ -228,9 +271,10 @@ impl JsonSaver {
         Ok(())
     }
 
-    #[tactic(auto, using(crate::proofs::FillingLemmas::object_none, crate::proofs::FillingLemmas::object_some))]
+    #[tactic(auto, using(crate::proofs::BuilderLemmas::object_none, crate::proofs::BuilderLemmas::object_some))]
     fn open_object(&mut self, fields: u64) -> Result<(), Memory>
-        ensures { OnOk result (json_state self.new ≡ opened_object fields (frames_of self.old.parts.items) (view self.old.last)) }
+        ensures added { OnOk result (built self.new ≡ opened_object fields (frames_of self.old.parts.items) (view self.old.last)) }
+        ensures kept { OnErr result (vec_len self.old.parts ≡ 0 → built self.new ≡ built self.old) }
     {
         if fields == 0 {
             self.put(empty_object(self.alloc))?;
@@ -250,7 +294,8 @@ impl JsonSaver {
     }
 
     fn name_next(&mut self, name: &str) -> Result<(), Memory>
-        ensures { OnOk result (json_state self.new ≡ state (named name.now (frames_of self.old.parts.items)) (view self.old.last)) }
+        ensures added { OnOk result (built self.new ≡ state (named name.now (frames_of self.old.parts.items)) (view self.old.last)) }
+        ensures kept { OnErr result (vec_len self.old.parts ≡ 0 → built self.new ≡ built self.old) }
     {
         match self.parts.pop() {
             None => Ok(()),
@@ -260,64 +305,5 @@ impl JsonSaver {
                 Ok(())
             }
         }
-    }
-}
-
-impl Save for JsonSaver {
-    ghost told = { SavesJson };
-
-    fn unit(&mut self) -> Result<(), Memory> {
-        self.put(null_json())?;
-        Ok(())
-    }
-
-    fn flag(&mut self, v: bool) -> Result<(), Memory> {
-        self.put(flag_json(v))?;
-        Ok(())
-    }
-
-    fn unsigned(&mut self, v: u64) -> Result<(), Memory> {
-        self.put(unsigned_json(v))?;
-        Ok(())
-    }
-
-    fn signed(&mut self, v: i64) -> Result<(), Memory> {
-        self.put(signed_json(v))?;
-        Ok(())
-    }
-
-    fn text(&mut self, v: &str) -> Result<(), Memory> {
-        let bytes = v.as_bytes();
-        let _ = measured(bytes);
-        let json = text_json(self.alloc, v)?;
-        self.put(json)?;
-        Ok(())
-    }
-
-    fn bytes(&mut self, v: &[u8]) -> Result<(), Memory> {
-        let _ = measured(v);
-        let json = bytes_json(self.alloc, v)?;
-        self.put(json)?;
-        Ok(())
-    }
-
-    fn place(&mut self, v: u32) -> Result<(), Memory> {
-        self.put(unsigned_json(v as u64))?;
-        Ok(())
-    }
-
-    fn list(&mut self, length: u64) -> Result<(), Memory> {
-        self.open_list(length)?;
-        Ok(())
-    }
-
-    fn object(&mut self, fields: u64) -> Result<(), Memory> {
-        self.open_object(fields)?;
-        Ok(())
-    }
-
-    fn field(&mut self, name: &str) -> Result<(), Memory> {
-        self.name_next(name)?;
-        Ok(())
     }
 }

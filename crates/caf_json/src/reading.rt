@@ -1,6 +1,6 @@
-ghost use Rattle.std.specs.Prelude.{◌≡◌, ◌∷◌, [], map, List, ℕ, Result, Err};
+ghost use Rattle.std.specs.Prelude.{◌≡◌, ◌∷◌, [], map, List, ℕ, Result, Err, true, IfOk, IfErr};
 ghost use Rattle.caf_types.specs.Shape.{tree, parts};
-ghost use Rattle.caf_words.specs.Datum.{Datum, data_of, a_list, an_object, some_bytes, a_place};
+ghost use Rattle.caf_words.specs.Datum.{Datum, fits, data_of, a_list, an_object, some_bytes, a_place};
 ghost use Rattle.caf_words.specs.Value.{datum};
 ghost use Rattle.serde_json.specs.View.{view, items_view, members_view};
 ghost use Rattle.serde_json.specs.Find.{as_object, as_str, as_array};
@@ -8,11 +8,12 @@ ghost use Rattle.caf_json.specs.Form as json_form;
 ghost use Rattle.caf_json.specs.Reading.{unjson, each_read, parts_read, object_read, list_read, found, below_256, inside as inside_part};
 ghost use Rattle.std.specs.Option.{option_and_then};
 ghost use Rattle.caf_json.specs.Digits.{unhex};
-ghost use Rattle.caf_events.specs.LoadAnswer.{Gives, Fails};
+ghost use Rattle.caf_events.specs.LoadAnswer.{Refused};
+ghost use Rattle.caf_json.specs.Answer.{Gives, Fails};
 
-use crate::LoadFault;
 use crate::digits::bytes_of_digits;
-use caf_types::{Field, Items, Letters, Octets, Seq, Shape};
+use caf_events::LoadFault;
+use caf_types::{Field, Items, Letters, Octets, PLACES, Seq, Shape};
 use caf_words::Value;
 use serde_json::{Map, Value as Json};
 use std::alloc::Global;
@@ -69,7 +70,7 @@ fn place_of(alloc: Global, json: &Json) -> Result<u32, LoadFault>
     match json.as_u64() {
         None => Err(unfit(alloc)),
         Some(number) => {
-            if number < 256 {
+            if number < PLACES as u64 {
                 Ok(number as u32)
             } else {
                 Err(unfit(alloc))
@@ -78,10 +79,21 @@ fn place_of(alloc: Global, json: &Json) -> Result<u32, LoadFault>
     }
 }
 
-/// The value of which this is the form, or the path to the first part that is missing or isn't of
-/// its shape.
+/// The value of the shape that has this JSON as its form.
+///
+/// `Unfit` comes exactly where it is the form of none. The path's positions, of fields in declared order
+/// and of elements, from 0, lead down to the first part that is missing or isn't of its shape. An object
+/// that has its declared members in form and others beside them is itself that part.
+pub fn value_of_json(alloc: Global, shape: &Shape, json: &Json) -> Result<Value, LoadFault>
+    ensures found { IfOk result (λ value. json_form.HasJson (tree shape.now) (datum value) (view json.now)) }
+    ensures fitting { IfOk result (λ value. fits (tree shape.now) (datum value) ≡ true) }
+    ensures unfit { IfErr result (Refused (λ d. json_form.HasJson (tree shape.now) d (view json.now)) (λ path. unjson (tree shape.now) (view json.now) ≡ Err path)) }
+{
+    value_of(alloc, shape, json)
+}
+
 #[cycle(unjson)]
-pub(crate) fn value_of(alloc: Global, shape: &Shape, json: &Json) -> Result<Value, LoadFault>
+fn value_of(alloc: Global, shape: &Shape, json: &Json) -> Result<Value, LoadFault>
     ensures { Gives (λ v. datum v) result (unjson (tree shape.now) (view json.now)) }
 {
     match shape {
