@@ -47,3 +47,7 @@ step (state fs t) e = take_in e fs t
 abbrev pub steps : State → List Event → State
 steps s [] = s
 steps s (e ∷ es) = steps (step s e) es
+
+-- with a text in front of what was written
+abbrev pub put_behind : List ℕ → State → State
+put_behind front (state fs t) = state fs (front ++ t)

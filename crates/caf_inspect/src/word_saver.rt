@@ -1,13 +1,13 @@
-ghost use Rattle.std.specs.Prelude.{◌≡◌, true, List, ◌++◌, [], ◌∷◌, OnOk, IfOk};
+ghost use Rattle.std.specs.Prelude.{◌≡◌, true, List, ◌++◌, [], ◌∷◌, OnOk, OnErr, IfOk};
+ghost use Rattle.std.specs.Int.{w64, cast_unsigned};
 ghost use Rattle.caf_types.specs.ShapeTree.{ShapeTree};
 ghost use Rattle.caf_words.specs.Datum.{Datum, fits, a_text, some_bytes};
-ghost use Rattle.caf_words.specs.Spelling.{spelling, Spells};
+ghost use Rattle.caf_words.specs.Spelling.{spelling, Spells, bit as bit_of};
 ghost use Rattle.caf_words.specs.Value.{datum};
 ghost use Rattle.caf_events.specs.Event.{Event, events};
 ghost use Rattle.caf_inspect.specs.WordForm.{all_words, SavesWords};
 
-use crate::Save;
-use crate::range::{bit, bits, measured};
+use caf_events::{Save, measured};
 use caf_types::{Letters, Memory, Seq, Words};
 use caf_words::{Value, spell};
 use std::alloc::Global;
@@ -50,7 +50,8 @@ impl WordSaver {
 
     /// Adds the spelling of the value.
     fn add_value(&mut self, value: &Value) -> Result<(), Memory>
-        ensures { OnOk result (self.new ≡ self.old ++ spelling (datum value.now)) }
+        ensures added { OnOk result (self.new ≡ self.old ++ spelling (datum value.now)) }
+        ensures kept { OnErr result (self.new ≡ self.old) }
     {
         let words = spell(self.alloc, value)?;
         self.words.extend_from_slice(words.as_slice())?;
@@ -58,7 +59,8 @@ impl WordSaver {
     }
 
     fn add(&mut self, word: u64) -> Result<(), Memory>
-        ensures { OnOk result (self.new ≡ self.old ++ word ∷ []) }
+        ensures added { OnOk result (self.new ≡ self.old ++ word ∷ []) }
+        ensures kept { OnErr result (self.new ≡ self.old) }
     {
         match self.words.push(word) {
             Ok(()) => Ok(()),
@@ -78,6 +80,20 @@ fn bytes_value(alloc: Global, bytes: &[u8]) -> Result<Value, Memory>
 {
     let bytes = Vec::from_slice(alloc, bytes)?;
     Ok(Value::Bytes(Seq::of_vec(bytes)))
+}
+
+/// The word of a flag.
+fn bit(flag: bool) -> u64
+    ensures { result ≡ bit_of flag }
+{
+    if flag { 1 } else { 0 }
+}
+
+/// The number's bits in two's complement.
+fn bits(number: i64) -> u64
+    ensures { result ≡ cast_unsigned w64 number }
+{
+    number.cast_unsigned()
 }
 
 impl Save for WordSaver {

@@ -1,18 +1,17 @@
-ghost use Rattle.std.specs.Prelude.{◌≡◌, true, Some, Err, IfOk, IfErr};
-ghost use Rattle.serde_json.specs.View.{view};
+ghost use Rattle.std.specs.Prelude.{◌≡◌, true, Some, IfOk, IfErr};
 ghost use Rattle.caf_types.specs.Table.{shape_at};
 ghost use Rattle.caf_types.specs.TypeTable.{seen};
 ghost use Rattle.caf_words.specs.Spelling.{Spells};
-ghost use Rattle.caf_json.specs.Form.{HasJson, names_differ};
-ghost use Rattle.caf_json.specs.Reading.{unjson};
+ghost use Rattle.caf_json.specs.Form.{names_differ};
+ghost use Rattle.caf_json.specs.Answer.{IsFormOf, UnfitAt};
 ghost use Rattle.caf_text.specs.TextForm.{HasText};
-ghost use Rattle.caf_events.specs.LoadAnswer.{Refused, TextFailsAt, WordsFailAt};
+ghost use Rattle.caf_events.specs.LoadAnswer.{Refused};
+ghost use Rattle.caf_inspect.specs.LoadAnswer.{TextFailsAt, WordsFailAt};
 
-use crate::{
-    Inspect, JsonLoader, JsonSaver, LoadFault, TextLoader, TextSaver, WordLoader, WordSaver,
-};
+use crate::{JsonLoader, TextLoader, TextSaver, WordLoader, WordSaver};
+use caf_events::{Inspect, LoadFault};
+use caf_json::{Json, JsonSaver};
 use caf_types::{Letters, Memory, TypeTable, Words};
-use serde_json::Value as Json;
 use std::alloc::Global;
 
 /// The words that spell the value.
@@ -43,7 +42,7 @@ pub fn from_words<T: Inspect>(
 
 /// The JSON form of the value.
 pub fn to_json<T: Inspect>(alloc: Global, value: &T) -> Result<Json, Memory>
-    ensures { IfOk result (λ form. names_differ T.shape ≡ true → HasJson T.shape (T.means value.now) (view form)) }
+    ensures { IfOk result (λ form. names_differ T.shape ≡ true → IsFormOf T.shape (T.means value.now) form) }
 {
     let mut saver = JsonSaver::new(alloc);
     value.save(&mut saver)?;
@@ -56,8 +55,8 @@ pub fn to_json<T: Inspect>(alloc: Global, value: &T) -> Result<Json, Memory>
 /// missing or isn't of its shape.
 pub fn from_json<T: Inspect>(alloc: Global, table: &TypeTable, json: &Json) -> Result<T, LoadFault>
     requires { shape_at (seen table.now) T.id ≡ Some T.shape }
-    ensures found { IfOk result (λ value. HasJson T.shape (T.means value) (view json.now)) }
-    ensures unfit { IfErr result (Refused (λ d. HasJson T.shape d (view json.now)) (λ path. unjson T.shape (view json.now) ≡ Err path)) }
+    ensures found { IfOk result (λ value. IsFormOf T.shape (T.means value) json.now) }
+    ensures unfit { IfErr result (Refused (λ d. IsFormOf T.shape d json.now) (UnfitAt T.shape json.now)) }
 {
     let mut loader = JsonLoader::start(alloc, table, T::type_id(), json)?;
     let value = T::load(alloc, &mut loader)?;
