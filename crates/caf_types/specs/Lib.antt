@@ -1,4 +1,5 @@
 pub mod ShapeTree
+pub mod Limits
 pub mod Name
 pub mod NameAnswer
 pub mod Reason

@@ -7,8 +7,10 @@ use Rattle.caf_types.specs.Shape.{parts, tree, field_view, tree_step, field_step
 use Rattle.caf_types.specs.ShapeTree.{ShapeTree, no_parts, count_parts}
 use Rattle.caf_types.specs.declared.shape.Shape.TheFolds.{fold_out-Field}
 use Rattle.caf_types.specs.declared.shape.Field.{Field}
-use Rattle.caf_words.specs.Datum.{count, data_of, is_none, each_fits, an_object}
+use Rattle.caf_types.specs.declared.shape.Shape.{Shape}
+use Rattle.caf_words.specs.Datum.{Datum, count, data_of, is_none, each_fits, an_object}
 use Rattle.caf_words.specs.Reading.{◌>>=◌, first_of, object_at, reading, each_reading, then_more}
+use Rattle.caf_words.specs.Several.{several}
 use Rattle.caf_words.specs.Value.{datum}
 use Rattle.caf_words.specs.declared.value.Value.{Value}
 
@@ -43,12 +45,20 @@ object_right fs ws rest w first same = rw (first, count_fields fs, eq-eqb w (len
 pub field_is : (f : Field) → (field_view f).1 ≡ tree f.shape
 field_is f = ap (λ (p : List ℕ × ShapeTree). p.1) (fold_out-Field ShapeTree (List ℕ × ShapeTree) tree_step field_step f)
 
+pub shapes_more : (shapes : List Shape) (i : ℕ) (shape : Shape) (ws : List ℕ) → i < length shapes → shape ≡ get_or shapes i shape → several (map tree (drop i shapes)) ws ≡ then_more (reading (tree shape) ws) (several (map tree (drop (i + 1) shapes)))
+shapes_more shapes i shape ws lt is =
+    let e : drop i shapes ≡ shape ∷ drop (i + 1) shapes = drop_more shapes i shape lt ∙ ap (λ (other : Shape). other ∷ drop (i + 1) shapes) (sym is) in
+    ap (λ (others : List Shape). several (map tree others) ws) e
+
 pub fields_more : (fs : List Field) (i : ℕ) (f : Field) (ws : List ℕ) → i < length fs → f ≡ get_or fs i f → each_reading (parts (drop i fs)) ws ≡ then_more (reading (tree f.shape) ws) (each_reading (parts (drop (i + 1) fs)))
 fields_more fs i f ws lt is =
     let e : drop i fs ≡ f ∷ drop (i + 1) fs = drop_more fs i f lt ∙ ap (λ (g : Field). g ∷ drop (i + 1) fs) (sym is) in
     ap (λ (gs : List Field). each_reading (parts gs) ws) e
     ∙ ap (λ (g : ShapeTree). then_more (reading g ws) (each_reading (parts (drop (i + 1) fs)))) (field_is f)
 
+pub count_of : {A : Type 0} (means : A → Datum) (xs : List A) → count (data_of (map means xs)) ≡ length xs
+count_of means [] = refl
+count_of means (x ∷ xs) = omega (arith, count_of means xs)
+
 pub count_values : (vs : List Value) → count (data_of (map datum vs)) ≡ length vs
-count_values [] = refl
-count_values (v ∷ vs) = omega (arith, count_values vs)
+count_values vs = count_of datum vs

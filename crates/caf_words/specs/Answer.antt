@@ -8,11 +8,13 @@ use Rattle.caf_words.specs.declared.stop.Stop.TheVariants as stops
 use Rattle.caf_words.specs.declared.stop.SpellFault.{SpellFault}
 use Rattle.caf_words.specs.declared.stop.SpellFault.TheVariants as faults
 
--- want of memory has no cause
+-- the reader stopped, and reading gives that fault: so much of the input is left from it on. Want of
+-- memory has no cause
 abbrev pub Fails : {Y : Type 0} → Stop → Result Y ℕ → Type 0
 Fails stops.Memory read = Unit {0}
 Fails (stops.Left n) read = read ≡ Err n
 
+-- the reader answered what reading gives: the thing, seen as `view` sees it, or its fault
 abbrev pub Gives : {X Y : Type 0} → (X → Y) → Result X Stop → Result Y ℕ → Type 0
 Gives view (Ok x) read = read ≡ Ok (view x)
 Gives view (Err e) read = Fails e read

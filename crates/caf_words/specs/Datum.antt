@@ -3,6 +3,7 @@ use Rattle.std.specs.Prelude.{ℕ, ◌+◌, ◌^◌, ◌&&◌, nat_lt, Bool, tru
 use Rattle.std.specs.List.{list_all}
 use Rattle.std.specs.Str.{is_utf8}
 use Rattle.caf_types.specs.ShapeTree.{ShapeTree, unit, flag, unsigned, signed, text, bytes, place, list, object, Parts, no_parts, part}
+use Rattle.caf_types.specs.Limits.{places}
 
 mutual
   pub data Datum : Type 0 where
@@ -60,7 +61,7 @@ is_bytes (some_bytes bs) = true
 is_bytes _ = false
 
 abbrev pub is_place : Datum → Bool
-is_place (a_place n) = nat_lt n 256
+is_place (a_place n) = nat_lt n places
 is_place _ = false
 
 abbrev pub is_list : (Data → Bool) → Datum → Bool

@@ -3,6 +3,7 @@ use Rattle.std.specs.Prelude.{ℕ, zero, suc, ◌+◌, ◌-◌, ◌==◌, nat_lt
 use Rattle.std.specs.Int.{w64, to_le_bytes, cast_signed}
 use Rattle.std.specs.Str.{is_utf8}
 use Rattle.caf_types.specs.ShapeTree.{ShapeTree, unit, flag, unsigned, signed, text, bytes, place, list, object, Parts, no_parts, part, count_parts}
+use Rattle.caf_types.specs.Limits.{places}
 use Rattle.caf_words.specs.Datum.{Datum, a_unit, a_flag, an_unsigned, a_signed, a_text, some_bytes, a_place, a_list, an_object, Data, no_data, more}
 use Rattle.caf_words.specs.Spelling.{words_for}
 
@@ -50,7 +51,7 @@ abbrev pub flag_in : ℕ → Option Datum
 flag_in w = if w == 0 then Some (a_flag false) else if w == 1 then Some (a_flag true) else None
 
 abbrev pub place_in : ℕ → Option Datum
-place_in w = if nat_lt w 256 then Some (a_place w) else None
+place_in w = if nat_lt w places then Some (a_place w) else None
 
 -- ---- texts and bytes: first the end of the words, then the filling, then UTF-8
 
@@ -82,9 +83,13 @@ some_bytes_at ws = bytes_at ws >>= λ x. Ok (some_bytes x.0, x.1)
 abbrev pub list_at : (ℕ → List ℕ → Got Data) → List ℕ → Got Datum
 list_at items ws = first_of ws >>= λ n. items n.0 n.1 >>= λ x. Ok (a_list x.0, x.1)
 
+-- the values of fields as an object
+abbrev pub as_object : Got Data → Got Datum
+as_object read = read >>= λ x. Ok (an_object x.0, x.1)
+
 abbrev pub fields_after : Bool → (List ℕ → Got Data) → List ℕ → List ℕ → Got Datum
 fields_after false fields ws rest = Err (length ws)
-fields_after true fields ws rest = fields rest >>= λ x. Ok (an_object x.0, x.1)
+fields_after true fields ws rest = as_object (fields rest)
 
 abbrev pub object_at : ℕ → (List ℕ → Got Data) → List ℕ → Got Datum
 object_at n fields ws = first_of ws >>= λ x. fields_after (x.0 == n) fields ws x.1

@@ -1,9 +1,10 @@
 -- The word form: how values are spelled as words of 64 bits.
-use Rattle.std.specs.Prelude.{◌≡◌, ℕ, zero, suc, ◌+◌, ◌/◌, ◌^◌, ◌<◌, ℤ, Bool, true, false, List, [], ◌∷◌, ◌++◌, length, drop}
+use Rattle.std.specs.Prelude.{◌≡◌, ℕ, zero, suc, ◌+◌, ◌/◌, ◌^◌, ◌<◌, ℤ, Bool, true, false, List, [], ◌∷◌, ◌++◌, length, take, drop}
 use Rattle.std.specs.Int.{w64, from_le_bytes, cast_unsigned}
 use Rattle.std.specs.Int.RustNames.{FitsSigned}
 use Rattle.std.specs.Str.{IsUtf8}
 use Rattle.caf_types.specs.ShapeTree.{ShapeTree, unit, flag, unsigned, signed, text, bytes, place, list, object, Parts, no_parts, part}
+use Rattle.caf_types.specs.Limits.{places}
 use Rattle.caf_words.specs.Datum.{Datum, a_unit, a_flag, an_unsigned, a_signed, a_text, some_bytes, a_place, a_list, an_object, Data, no_data, more, count}
 
 -- how many words hold n bytes
@@ -40,6 +41,10 @@ abbrev mutual
   spellings no_data = []
   spellings (more d ds) = spelling d ++ spellings ds
 
+-- words that begin with those: these stay, whatever follows them
+abbrev pub IsFront : List ℕ → List ℕ → Type 0
+IsFront front words = take (length front) words ≡ front
+
 -- a list of bytes
 abbrev pub AreBytes : List ℕ → Type 0
 AreBytes [] = Unit {0}
@@ -59,7 +64,7 @@ abbrev mutual
   Spells signed d ws = (z : ℤ) × FitsSigned w64 z × (d ≡ a_signed z) × (ws ≡ cast_unsigned w64 z ∷ [])
   Spells text d ws = (bs : List ℕ) × AreBytes bs × (length bs < 2 ^ 64) × IsUtf8 bs × (d ≡ a_text bs) × (ws ≡ length bs ∷ packed bs)
   Spells bytes d ws = (bs : List ℕ) × AreBytes bs × (length bs < 2 ^ 64) × (d ≡ some_bytes bs) × (ws ≡ length bs ∷ packed bs)
-  Spells place d ws = (n : ℕ) × (n < 256) × (d ≡ a_place n) × (ws ≡ n ∷ [])
+  Spells place d ws = (n : ℕ) × (n < places) × (d ≡ a_place n) × (ws ≡ n ∷ [])
   Spells (list f) d ws = (ds : Data) × (count ds < 2 ^ 64) × (d ≡ a_list ds) × (rest : List ℕ) × EachSpells (Spells f) ds rest × (ws ≡ count ds ∷ rest)
   Spells (object ps) d ws = (ds : Data) × (count ds < 2 ^ 64) × (d ≡ an_object ds) × (rest : List ℕ) × PartsSpell ps ds rest × (ws ≡ count ds ∷ rest)
 

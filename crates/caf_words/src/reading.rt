@@ -6,24 +6,15 @@ ghost use Rattle.caf_types.specs.TypeTable.{seen};
 ghost use Rattle.caf_words.specs.Datum.{data_of, an_object};
 ghost use Rattle.caf_words.specs.Value.{datum};
 ghost use Rattle.caf_words.specs.Answer.{Gives, Faulty};
-ghost use Rattle.caf_words.specs.Several.{ids_of, shapes_at, shapes_reading, TypesSpell, whole_reading};
-ghost use Rattle.caf_words.specs.Reading.{first_of, many, reading, each_reading, object_at as reading_object};
+ghost use Rattle.caf_words.specs.Several.{ids_of, several, shapes_at, shapes_reading, TypesSpell, whole_reading};
+ghost use Rattle.caf_words.specs.Reading.{many, reading, each_reading, object_at as reading_object};
 
+use crate::scalar::{read_flag, read_place, read_signed, read_unit, read_word};
 use crate::stop::Stop;
-use crate::text::{letters, octets};
+use crate::text::{read_bytes, read_text};
 use crate::{SpellFault, Value};
 use caf_types::{Field, Items, Seq, Shape, TypeId, TypeTable};
 use std::alloc::Global;
-
-/// The first word, and the words after it.
-pub(crate) fn first(words: &[u64]) -> Result<(u64, &[u64]), Stop>
-    ensures { Gives (λ x. (x.0, x.1.now)) result (first_of words.now) }
-{
-    match words {
-        [] => Err(Stop::Left(0)),
-        [word, rest @ ..] => Ok((*word, rest)),
-    }
-}
 
 /// The value of that shape that the words begin with, and the words after it.
 #[cycle(value_at)]
@@ -36,36 +27,27 @@ pub(crate) fn value_at<'a>(
 {
     match shape {
         Shape::Unit => {
-            let (word, rest) = first(words)?;
-            if word != 0 {
-                return Err(Stop::Left(words.len() as u64));
-            }
+            let rest = read_unit(words)?;
             Ok((Value::Unit, rest))
         }
         Shape::Flag => {
-            let (word, rest) = first(words)?;
-            if word > 1 {
-                return Err(Stop::Left(words.len() as u64));
-            }
-            Ok((Value::Flag(word == 1), rest))
+            let (flag, rest) = read_flag(words)?;
+            Ok((Value::Flag(flag), rest))
         }
         Shape::Unsigned => {
-            let (word, rest) = first(words)?;
+            let (word, rest) = read_word(words)?;
             Ok((Value::Unsigned(word), rest))
         }
         Shape::Signed => {
-            let (word, rest) = first(words)?;
-            Ok((Value::Signed(word.cast_signed()), rest))
+            let (number, rest) = read_signed(words)?;
+            Ok((Value::Signed(number), rest))
         }
         Shape::Place => {
-            let (word, rest) = first(words)?;
-            if word > 255 {
-                return Err(Stop::Left(words.len() as u64));
-            }
-            Ok((Value::Place(word as u32), rest))
+            let (place, rest) = read_place(words)?;
+            Ok((Value::Place(place), rest))
         }
         Shape::List(item) => {
-            let (count, rest) = first(words)?;
+            let (count, rest) = read_word(words)?;
             let (items, rest) = items_at(alloc, item.get(), count, rest)?;
             Ok((Value::List(Items::from_vec(items)), rest))
         }
@@ -74,12 +56,12 @@ pub(crate) fn value_at<'a>(
             Ok((Value::Object(Items::from_vec(values)), rest))
         }
         Shape::Text => {
-            let (text, rest) = letters(alloc, words)?;
+            let (text, rest) = read_text(alloc, words)?;
             Ok((Value::Text(text), rest))
         }
         Shape::Bytes => {
-            let (bytes, rest) = octets(alloc, words)?;
-            Ok((Value::Bytes(Seq::of_vec(bytes)), rest))
+            let (bytes, rest) = read_bytes(alloc, words)?;
+            Ok((Value::Bytes(bytes), rest))
         }
     }
 }
@@ -130,11 +112,29 @@ fn object_at<'a>(
 ) -> Result<(Vec<Value>, &'a [u64]), Stop>
     ensures { Gives (λ x. (an_object (data_of (map datum x.0.items)), x.1.now)) result (reading_object (count_parts (parts fields.now)) (each_reading (parts fields.now)) words.now) }
 {
-    let (count, rest) = first(words)?;
+    let (count, rest) = read_word(words)?;
     if count != fields.len() as u64 {
         return Err(Stop::Left(words.len() as u64));
     }
     let (values, rest) = fields_at(alloc, fields, rest)?;
+    Ok((values, rest))
+}
+
+/// The values of these shapes that the words begin with, and the words after them.
+pub(crate) fn values_of_shapes<'a>(
+    alloc: Global,
+    shapes: &[Shape],
+    words: &'a [u64],
+) -> Result<(Vec<Value>, &'a [u64]), Stop>
+    ensures { Gives (λ x. (data_of (map datum x.0.items), x.1.now)) result (several (map tree shapes.now) words.now) }
+{
+    let mut values = Vec::new(alloc);
+    let mut rest = words;
+    for shape in shapes {
+        let (value, after) = value_at(alloc, shape, rest)?;
+        values.push(value)?;
+        rest = after;
+    }
     Ok((values, rest))
 }
 

@@ -1,6 +1,7 @@
 ghost use Rattle.std.specs.Prelude.{◌≡◌};
-ghost use Rattle.caf_words.specs.declared.stop.Stop.TheVariants.{Memory};
+ghost use Rattle.caf_words.specs.declared.stop.Stop.TheVariants.{Memory as memory};
 
+use caf_types::Memory;
 use std::alloc::{AllocError, AllocFailed};
 use thiserror::Error;
 
@@ -12,30 +13,41 @@ pub enum SpellFault {
     /// isn't UTF-8, or of a word after the last value, and the number of words where they end too soon.
     #[error("no spelling: fault at word {0}")]
     At(u64),
+    /// Want of memory.
     #[error("out of memory")]
     Memory,
 }
 
 /// Why a reader stopped.
-#[derive(Debug, Drop)]
-pub(crate) enum Stop {
+#[derive(Clone, Copy, Debug, Drop)]
+pub enum Stop {
+    /// Want of memory. It has no cause.
     Memory,
-    /// So many words are left from the faulty one on.
+    /// The input is no form of a value: so many words (for a reader of text, bytes) are left, from the
+    /// faulty one on.
     Left(u64),
 }
 
 impl From<AllocError> for Stop {
-    ghost from_gives = { λ _ e. e ≡ Memory };
+    ghost from_gives = { λ _ e. e ≡ memory };
 
-    fn from(_e: AllocError) -> Stop {
+    fn from(_: AllocError) -> Stop {
         Stop::Memory
     }
 }
 
 impl<T: Drop> From<AllocFailed<T>> for Stop {
-    ghost from_gives = { λ _ e. e ≡ Memory };
+    ghost from_gives = { λ _ e. e ≡ memory };
 
-    fn from(_e: AllocFailed<T>) -> Stop {
+    fn from(_: AllocFailed<T>) -> Stop {
+        Stop::Memory
+    }
+}
+
+impl From<Memory> for Stop {
+    ghost from_gives = { λ _ e. e ≡ memory };
+
+    fn from(_: Memory) -> Stop {
         Stop::Memory
     }
 }

@@ -1,10 +1,18 @@
-ghost use Rattle.std.specs.Prelude.{◌≡◌, [], ◌∷◌, refl, IfOk};
-ghost use Rattle.caf_types.specs.ShapeTree.{unit};
-ghost use Rattle.caf_words.specs.Datum.{a_unit, no_data, more};
+ghost use Rattle.std.specs.Prelude.{◌≡◌, [], ◌∷◌, refl, map, codes, IfOk};
+ghost use Rattle.caf_types.specs.ShapeTree as shapes;
+ghost use Rattle.caf_types.specs.ShapeTree.{part, no_parts};
+ghost use Rattle.caf_words.specs.Datum.{a_flag, a_list, a_signed, a_text, a_unit, an_object, an_unsigned, some_bytes, data_of, no_data, more};
+ghost use Rattle.caf_words.specs.declared.tests.Posting.{Posting};
+ghost use Rattle.caf_words.specs.Fitting.{both_hold, list_fits};
 
-use crate::{Row, SpellFault, Value, fits, read, spell};
+use crate::{
+    Row, SpellFault, Spelled, Stop, Value, fits, read, read_bytes, read_flag, read_list,
+    read_object_head, read_place, read_signed, read_text, read_unit, read_word, spell, write_bytes,
+    write_flag, write_list, write_object_head, write_place, write_signed, write_text, write_unit,
+    write_word,
+};
 use caf_types::{
-    Items, Letters, Memory, NameFault, Octets, Seq, Shape, TableFault, TypeId, TypeIds, TypeTable,
+    Items, Letters, Memory, Octets, Seq, Shape, TypeId, TypeIds, TypeTable, Words, shape_of,
 };
 use std::alloc::Global;
 use std::test::Fail;
@@ -134,83 +142,208 @@ fn a_value_fits_its_shape(rt: HostRuntime) -> Result<(), Fail> {
 #[test]
 fn faults_have_texts(rt: HostRuntime) -> Result<(), Fail> {
     let alloc = rt.alloc();
-    for (text, expected) in [
-        (
-            format!(in alloc; "{}", SpellFault::At(3))?,
-            "no spelling: fault at word 3",
-        ),
-        (
-            format!(in alloc; "{}", SpellFault::Memory)?,
-            "out of memory",
-        ),
-        (format!(in alloc; "{}", NameFault::Form)?, "not a name"),
-        (format!(in alloc; "{}", NameFault::Memory)?, "out of memory"),
-        (
-            format!(in alloc; "{}", TableFault::Range)?,
-            "a type's ID is out of range",
-        ),
-        (
-            format!(in alloc; "{}", TableFault::Taken(TypeId(200)))?,
-            "a type's ID is taken",
-        ),
-        (
-            format!(in alloc; "{}", TableFault::Deep(TypeId(200)))?,
-            "a shape nests too deep",
-        ),
-        (format!(in alloc; "{}", Memory)?, "out of memory"),
+    for (fault, expected) in [
+        (SpellFault::At(3), "no spelling: fault at word 3"),
+        (SpellFault::Memory, "out of memory"),
     ] {
+        let text = format!(in alloc; "{fault}")?;
         assert_eq!(rt; text.as_str(), expected);
     }
     Ok(())
 }
 
-/// A row of one atom.
-#[derive(Drop)]
-struct Start {
-    seen: bool,
+/// What a row is after it went through words, and after it went through values.
+fn again<T: Row + Drop>(alloc: Global, row: &T) -> Result<(Words, T), Memory>
+    ensures { IfOk result (λ again. T.means again.1 ≡ T.means row.now) }
+{
+    let values = row.to_values(alloc)?;
+    let row = T::from_values(alloc, &values)?;
+    let mut words = Vec::new(alloc);
+    row.write_words(&mut words)?;
+    Ok((Seq::of_vec(words), row))
 }
 
-impl Row for Start {
-    ghost ids = { 0 ∷ [] };
+#[test]
+fn a_row_goes_through_words_and_values(rt: HostRuntime) -> Result<(), Fail> {
+    let alloc = rt.alloc();
+    let mut items = Seq::new(alloc);
+    items.push(Posting {
+        word: Letters::of(alloc, "caf")?,
+        line: 7,
+    })?;
+    let (words, row) = again(alloc, &Postings { file: 1, items })?;
+    assert_eq!(rt; words.as_slice(), [2, 1, 1, 2, 3, 6_709_603, 7].as_slice());
+    assert_eq!(rt; (row.file, row.items.len()), (1, 1));
+    let mut bytes = Octets::new(alloc);
+    bytes.push(255)?;
+    let plain = Plain {
+        flag: true,
+        signed: -1,
+        bytes,
+    };
+    let (words, plain) = again(alloc, &plain)?;
+    assert_eq!(rt; words.as_slice(), [0, 1, u64::MAX, 1, 255].as_slice());
+    assert!(rt; plain.flag && plain.signed == -1 && plain.bytes.len() == 1);
+    assert_eq!(rt;
+        Postings::types(alloc)?.as_slice(),
+        [TypeId(201)].as_slice()
+    );
+    Ok(())
+}
 
-    ghost shapes = { unit ∷ [] };
+#[test]
+fn a_row_stops_at_the_first_fault(rt: HostRuntime) -> Result<(), Fail> {
+    for (words, left) in [
+        ([].as_slice(), 0),
+        ([3, 1, 0].as_slice(), 3),
+        ([2, 1].as_slice(), 0),
+        ([2, 1, 1, 2, 1, 255, 7].as_slice(), 3),
+        ([2, 1, 1, 2, 3, 23_486_819, 7].as_slice(), 2),
+    ] {
+        let answer = Postings::read_words(rt.alloc(), words);
+        assert!(rt;
+            matches!(answer, Err(Stop::Left(n)) if n == left),
+            "{words:?}"
+        );
+    }
+    let mut words = Vec::new(rt.alloc());
+    write_place(&mut words, 255)?;
+    assert!(rt; matches!(read_place(words.as_slice()), Ok((255, []))));
+    assert!(rt; matches!(read_place(&[256]), Err(Stop::Left(1))));
+    Ok(())
+}
 
-    ghost means = { λ row. more a_unit no_data };
+/// A word in a line.
+#[derive(Drop)]
+struct Posting {
+    word: Letters,
+    line: u64,
+}
+
+impl Spelled for Posting {
+    ghost shape = { shapes.object (part (codes "word") shapes.text (part (codes "line") shapes.unsigned no_parts)) };
+
+    ghost means = { λ it. an_object (more (a_text it.word) (more (an_unsigned it.line) no_data)) };
+
+    fn write(&self, words: &mut Vec<u64>) -> Result<(), Memory> {
+        write_object_head(words, 2)?;
+        write_text(words, self.word.as_str())?;
+        write_word(words, self.line)?;
+        Ok(())
+    }
+
+    fn read(alloc: Global, words: &[u64]) -> Result<(Posting, &[u64]), Stop> {
+        let rest = read_object_head(words, 2)?;
+        let (word, rest) = read_text(alloc, rest)?;
+        let (line, rest) = read_word(rest)?;
+        Ok((Posting { word, line }, rest))
+    }
+
+    ghost fits_shape = { λ it. refl };
+}
+
+/// The words of a part of a file, as a row of one element.
+#[derive(Drop)]
+struct Postings {
+    file: u64,
+    items: Seq<Posting>,
+}
+
+impl Row for Postings {
+    ghost ids = { 201 ∷ [] };
+
+    ghost shapes = { shapes.object (part (codes "file") shapes.unsigned (part (codes "items") (shapes.list (shapes.object (part (codes "word") shapes.text (part (codes "line") shapes.unsigned no_parts)))) no_parts)) ∷ [] };
+
+    ghost means = { λ row. more (an_object (more (an_unsigned row.file) (more (a_list (data_of (map (λ (it : Posting). an_object (more (a_text it.word) (more (an_unsigned it.line) no_data))) row.items))) no_data))) no_data };
+
+    fn types(alloc: Global) -> Result<TypeIds, Memory> {
+        let mut types = Seq::new(alloc);
+        types.push(TypeId(201))?;
+        Ok(types)
+    }
+
+    fn shapes(alloc: Global) -> Result<Seq<Shape>, Memory> {
+        let mut shapes = Seq::new(alloc);
+        shapes.push(shape_of!(alloc, { file: Unsigned, items: [{ word: Text, line: Unsigned }] }))?;
+        Ok(shapes)
+    }
+
+    fn write_words(&self, words: &mut Vec<u64>) -> Result<(), Memory> {
+        write_object_head(words, 2)?;
+        write_word(words, self.file)?;
+        write_list(words, self.items.as_slice())?;
+        Ok(())
+    }
+
+    fn read_words(alloc: Global, words: &[u64]) -> Result<(Postings, &[u64]), Stop> {
+        let rest = read_object_head(words, 2)?;
+        let (file, rest) = read_word(rest)?;
+        let (items, rest) = read_list(alloc, rest)?;
+        Ok((Postings { file, items }, rest))
+    }
+
+    ghost one_shape_each = { refl };
+
+    ghost are_of_shapes = { λ row. both_hold (both_hold (list_fits (shapes.object (part (codes "word") shapes.text (part (codes "line") shapes.unsigned no_parts))) (λ (it : Posting). an_object (more (a_text it.word) (more (an_unsigned it.line) no_data))) (λ it. refl) row.items) refl) refl };
+}
+
+/// A row of four plain elements.
+#[derive(Drop)]
+struct Plain {
+    flag: bool,
+    signed: i64,
+    bytes: Octets,
+}
+
+impl Row for Plain {
+    ghost ids = { 0 ∷ 1 ∷ 3 ∷ 5 ∷ [] };
+
+    ghost shapes = { shapes.unit ∷ shapes.flag ∷ shapes.signed ∷ shapes.bytes ∷ [] };
+
+    ghost means = { λ row. more a_unit (more (a_flag row.flag) (more (a_signed row.signed) (more (some_bytes row.bytes) no_data))) };
 
     fn types(alloc: Global) -> Result<TypeIds, Memory> {
         let mut types = Seq::new(alloc);
         types.push(TypeId(0))?;
+        types.push(TypeId(1))?;
+        types.push(TypeId(3))?;
+        types.push(TypeId(5))?;
         Ok(types)
     }
 
-    fn to_values(&self, alloc: Global) -> Result<Seq<Value>, Memory> {
-        let mut values = Seq::new(alloc);
-        values.push(Value::Unit)?;
-        Ok(values)
+    fn shapes(alloc: Global) -> Result<Seq<Shape>, Memory> {
+        let mut shapes = Seq::new(alloc);
+        shapes.push(Shape::Unit)?;
+        shapes.push(Shape::Flag)?;
+        shapes.push(Shape::Signed)?;
+        shapes.push(Shape::Bytes)?;
+        Ok(shapes)
     }
 
-    fn from_values(_alloc: Global, _values: &Seq<Value>) -> Result<Start, Memory> {
-        Ok(Start { seen: true })
+    fn write_words(&self, words: &mut Vec<u64>) -> Result<(), Memory> {
+        write_unit(words)?;
+        write_flag(words, self.flag)?;
+        write_signed(words, self.signed)?;
+        write_bytes(words, self.bytes.as_slice())?;
+        Ok(())
+    }
+
+    fn read_words(alloc: Global, words: &[u64]) -> Result<(Plain, &[u64]), Stop> {
+        let rest = read_unit(words)?;
+        let (flag, rest) = read_flag(rest)?;
+        let (signed, rest) = read_signed(rest)?;
+        let (bytes, rest) = read_bytes(alloc, rest)?;
+        Ok((
+            Plain {
+                flag,
+                signed,
+                bytes,
+            },
+            rest,
+        ))
     }
 
     ghost one_shape_each = { refl };
 
     ghost are_of_shapes = { λ row. refl };
-}
-
-/// What a row is after it went through values.
-fn again<T: Row>(alloc: Global, row: &T) -> Result<T, Memory>
-    ensures { IfOk result (λ again. T.means again ≡ T.means row.now) }
-{
-    let values = row.to_values(alloc)?;
-    T::from_values(alloc, &values)
-}
-
-#[test]
-fn a_row_goes_through_values(rt: HostRuntime) -> Result<(), Fail> {
-    let types = Start::types(rt.alloc())?;
-    assert_eq!(rt; types.as_slice(), [TypeId(0)].as_slice());
-    let start = again(rt.alloc(), &Start { seen: false })?;
-    assert!(rt; start.seen);
-    Ok(())
 }

@@ -4,20 +4,28 @@ ghost use Rattle.caf_words.specs.Datum as of;
 ghost use Rattle.caf_words.specs.Datum.{data_of};
 ghost use Rattle.caf_words.specs.Value.{datum};
 
-use caf_types::{Field, Items, Letters, Octets, Shape};
+use caf_types::{Field, Items, Letters, Octets, PLACES, Shape};
 
 /// A value, of one shape or another.
 #[derive(Debug, Drop)]
 pub enum Value {
+    /// The one value without parts, as an atom has it.
     Unit,
+    /// True or false.
     Flag(bool),
+    /// A whole number of 64 bits.
     Unsigned(u64),
+    /// A whole number of 64 bits in two's complement.
     Signed(i64),
+    /// A text in UTF-8.
     Text(Letters),
+    /// Any bytes.
     Bytes(Octets),
-    /// The number of a place. Of the shape `Place` are those below 256.
+    /// The number of a place. Of the shape `Place` are those below [`PLACES`].
     Place(u32),
+    /// Values of one shape.
     List(Items<Value>),
+    /// A value for each field, in declared order.
     Object(Items<Value>),
 }
 
@@ -33,7 +41,7 @@ pub fn fits(value: &Value, shape: &Shape) -> bool
         | (Value::Signed(_), Shape::Signed)
         | (Value::Text(_), Shape::Text)
         | (Value::Bytes(_), Shape::Bytes) => true,
-        (Value::Place(place), Shape::Place) => *place < 256,
+        (Value::Place(place), Shape::Place) => *place < PLACES,
         (Value::List(items), Shape::List(item)) => all_fit(items.as_slice(), item.get()),
         (Value::Object(items), Shape::Object(fields)) => {
             each_fits(items.as_slice(), fields.as_slice())

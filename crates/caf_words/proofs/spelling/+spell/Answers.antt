@@ -6,13 +6,13 @@ use Rattle.caf_words.proofs.CountLemmas.{count_values}
 use Rattle.caf_words.proofs.RangeLemmas.{counts}
 use Rattle.caf_words.proofs.spelling.+spell.Goals as goal
 
-pub push_counted-returns-clause-spelled : goal.push_counted-returns-clause-spelled
-push_counted-returns-clause-spelled t c =
-    rw (c.in_ok-push_values.ensures.spelled, c.in_ok-push.ensures.added, count_values c.args.values.now)
+pub write_counted-returns-clause-spelled : goal.write_counted-returns-clause-spelled
+write_counted-returns-clause-spelled t c =
+    rw (c.in_ok-write_values.ensures.spelled, c.in_ok-write_word.ensures.spelled, count_values c.args.values.now)
     (append_assoc c.args.words.now.items (length c.args.values.now ∷ []) (spellings (data_of (map datum c.args.values.now))))
 
-pub push_counted-returns-clause-in_range : goal.push_counted-returns-clause-in_range
-push_counted-returns-clause-in_range t c =
+pub write_counted-returns-clause-in_range : goal.write_counted-returns-clause-in_range
+write_counted-returns-clause-in_range t c =
     counts (count (data_of (map datum c.args.values.now))) (are_in_range (data_of (map datum c.args.values.now)))
-    (subst (λ n. n < 2 ^ 64) (sym (count_values c.args.values.now)) c.in_ok-push.ensures.in_range)
-    c.in_ok-push_values.ensures.in_range
+    (subst (λ n. n < 2 ^ 64) (sym (count_values c.args.values.now)) c.in_ok-write_word.ensures.in_range)
+    c.in_ok-write_values.ensures.in_range

@@ -8,5 +8,5 @@ pub returns-clause-spells : goal.returns-clause-spells
 returns-clause-spells c = λ f e.
     let d = datum c.args.value.now in
     let words : c.of_vec.result ≡ spelling d =
-    c.of_vec.ensures ∙ c.in_ok-push_value.ensures.spelled ∙ ap (λ (xs : List ℕ). xs ++ spelling d) c.new-words.ensures.items in
-    subst (λ (ws : List ℕ). Spells f d ws) (sym words) (is_spelled f d e c.in_ok-push_value.ensures.in_range)
+    c.of_vec.ensures ∙ c.in_ok-write_value.ensures.spelled ∙ ap (λ (xs : List ℕ). xs ++ spelling d) c.new-words.ensures.items in
+    subst (λ (ws : List ℕ). Spells f d ws) (sym words) (is_spelled f d e c.in_ok-write_value.ensures.in_range)
