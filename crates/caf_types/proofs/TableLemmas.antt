@@ -1,17 +1,17 @@
 -- Looking up in tables: lists joined, blocks, and the walk over blocks.
-use Rattle.std.proofs.Common.{◌≡◌, ℕ, zero, suc, ◌+◌, ◌-◌, ◌<◌, ◌≤◌, eqb, ltb, cond, add-one, Bool, true, false, List, [], ◌∷◌, ◌++◌, length, drop, get_or, Option, Some, None, refl, sym, ap, ◌∙◌, arith}
-use Rattle.std.specs.Prelude.{slice_get, bytes_eq}
+use Rattle.std.proofs.Common.{add-zero, length-append, ◌≡◌, ℕ, zero, suc, ◌+◌, ◌-◌, ◌<◌, ◌≤◌, eqb, ltb, cond, add-one, Bool, true, false, List, [], ◌∷◌, ◌++◌, length, drop, get_or, Option, Some, None, refl, sym, ap, ◌∙◌, arith}
+use Rattle.std.specs.Prelude.{slice_get, bytes_eq, find as find_first}
 use Rattle.std.specs.List.{position_from}
 use Rattle.std.specs.Option.{option_map, option_copied}
 use Rattle.std.specs.Borrow.{Bor}
-use Rattle.std.proofs.lemmas.List.{drop_more}
+use Rattle.std.proofs.lemmas.List.{drop_more, map-append, length-map}
 use Rattle.std.proofs.lemmas.Bool.{ne_eqb, eq-eqb, ltb-true, ltb-false}
-use Rattle.std.proofs.lemmas.Option.{slice_get-map, slice_get_read}
-use Rattle.caf_types.specs.Table.{Named, type_at, id_of, numbered, type_in, find_in, or_else, first_name, has_name, is_named_in}
+use Rattle.std.proofs.lemmas.Option.{slice_get_read}
+use Rattle.caf_types.specs.Table.{Named, type_at, id_of, numbered, type_in, find_in, or_else}
 use Rattle.caf_types.specs.Shape.{entry_view, entry_views}
-use Rattle.caf_types.specs.TypeTable.{span_types, blocks_types}
-use Rattle.caf_types.specs.declared.block.Block.{Block}
-use Rattle.caf_types.specs.declared.block.Span.{Span}
+use Rattle.caf_types.specs.Listing.{type_of, types_of}
+use Rattle.caf_types.specs.declared.listed.Listed.{Listed}
+use Rattle.caf_types.specs.declared.shape.Entry.{Entry}
 use Rattle.caf_types.specs.declared.shape.Entry.{Entry}
 
 -- ---- two lists of types
@@ -49,45 +49,10 @@ type_at_block (suc k) first id (n ∷ ns) e =
     let other : eqb first id ≡ false = ne_eqb first id (λ same. absurd (omega (arith, e, same))) in
     rw other (type_at_block k (first + 1) id ns (omega (arith, e)))
 
--- a look-up by reference, as the entry that it shows
+-- a look-up by reference, as what it shows
 pub option_map_copied : {X Y : Type 0} (f : X → Y) (r : Option (Bor X)) → option_map (λ (x : Bor X). f x.now) r ≡ option_map f (option_copied r)
 option_map_copied f None = refl
 option_map_copied f (Some x) = refl
-
-pub entry_shown : (s : Span) (id : ℕ) (r : Option (Bor Entry)) → s.first ≤ id → option_copied r ≡ slice_get s.entries (id - s.first)
-    → option_map (λ (e : Bor Entry). entry_view e.now) r ≡ type_at (span_types s) id
-entry_shown s id r le e =
-    option_map_copied entry_view r ∙ ap (λ (o : Option Entry). option_map entry_view o) e
-    ∙ sym (slice_get-map entry_view s.entries (id - s.first))
-    ∙ sym (type_at_block (id - s.first) s.first id (entry_views s.entries) (omega arith))
-
--- ---- the walk over blocks
-
-at_block : (bs : List Block) (i : ℕ) (b : Block) → i < length bs → b ≡ get_or bs i b → drop i bs ≡ b ∷ drop (i + 1) bs
-at_block bs i b lt is = drop_more bs i b lt ∙ ap (λ (c : Block). c ∷ drop (i + 1) bs) (sym is)
-
-pub type_step : (bs : List Block) (i : ℕ) (b : Block) (id : ℕ) → i < length bs → b ≡ get_or bs i b
-    → type_at (blocks_types (drop i bs)) id ≡ or_else (type_at (span_types b.span) id) (type_at (blocks_types (drop (i + 1) bs)) id)
-type_step bs i b id lt is =
-    ap (λ (cs : List Block). type_at (blocks_types cs) id) (at_block bs i b lt is) ∙ type_at-append (span_types b.span) (blocks_types (drop (i + 1) bs)) id
-
-pub id_step : (bs : List Block) (i : ℕ) (b : Block) (name : List ℕ) → i < length bs → b ≡ get_or bs i b
-    → id_of (blocks_types (drop i bs)) name ≡ or_else (id_of (span_types b.span) name) (id_of (blocks_types (drop (i + 1) bs)) name)
-id_step bs i b name lt is =
-    ap (λ (cs : List Block). id_of (blocks_types cs) name) (at_block bs i b lt is) ∙ id_of-append (span_types b.span) (blocks_types (drop (i + 1) bs)) name
-
--- ---- the first name that clashes
-
-at_entry : (ts : List (ℕ × Named)) (front : List Named) (es : List Entry) (i : ℕ) (e : Entry) → i < length es → e ≡ get_or es i e → first_name ts front (entry_views (drop i es)) ≡ first_name ts front (entry_view e ∷ entry_views (drop (i + 1) es))
-at_entry ts front es i e lt is = ap (λ xs. first_name ts front (entry_views xs)) (drop_more es i e lt ∙ ap (λ x. x ∷ drop (i + 1) es) (sym is))
-
-pub known : (ts : List (ℕ × Named)) (front : List Named) (es : List Entry) (i : ℕ) (e : Entry) (total : Option (List ℕ)) → i < length es → e ≡ get_or es i e
-    → first_name ts front (entry_views (drop i es)) ≡ total → has_name ts e.name ≡ true → total ≡ Some e.name
-known ts front es i e total lt is so_far h = sym so_far ∙ at_entry ts front es i e lt is ∙ rw h refl
-
-pub twice : (ts : List (ℕ × Named)) (front : List Named) (es : List Entry) (i : ℕ) (e : Entry) (total : Option (List ℕ)) → i < length es → e ≡ get_or es i e
-    → first_name ts front (entry_views (drop i es)) ≡ total → has_name ts e.name ≡ false → is_named_in front e.name ≡ true → total ≡ Some e.name
-twice ts front es i e total lt is so_far h k = sym so_far ∙ at_entry ts front es i e lt is ∙ rw (h, k) refl
 
 pub at_get : (es : List Entry) (i : ℕ) (e : Entry) → i < length es → e ≡ get_or es i e → slice_get es i ≡ Some e
 at_get es i e lt is = slice_get_read es (length es) i e refl lt is
@@ -121,3 +86,44 @@ id_of_block first (n ∷ ns) name = id_at first n ns name (bytes_eq n.name name)
 pub id_joins : (ts : List (ℕ × Named)) (first : ℕ) (ns : List Named) (name : List ℕ) → id_of (ts ++ numbered first ns) name ≡ or_else (id_of ts name) (find_in first ns name)
 id_joins ts first ns name =
     id_of-append ts (numbered first ns) name ∙ ap (λ (o : Option ℕ). or_else (id_of ts name) o) (id_of_block first ns name)
+
+-- what a look-up by reference found
+pub some_read : {X : Type 0} (r : Option (Bor X)) (x : Bor X) (o : Option X) → r ≡ Some x → option_copied r ≡ o → o ≡ Some x.now
+some_read r x o is e = sym e ∙ ap (λ s. option_copied s) is
+
+pub none_read : {X : Type 0} (r : Option (Bor X)) (o : Option X) → r ≡ None → option_copied r ≡ o → o ≡ None
+none_read r o is e = sym e ∙ ap (λ s. option_copied s) is
+
+-- ---- the first name that clashes
+
+entries_step : (es : List Entry) (i : ℕ) (e : Entry) → i < length es → e ≡ get_or es i e → entry_views (drop i es) ≡ entry_view e ∷ entry_views (drop (i + 1) es)
+entries_step es i e lt is = ap entry_views (drop_more es i e lt ∙ ap (λ x. x ∷ drop (i + 1) es) (sym is))
+
+pub clash_here : (test : Named → Bool) (es : List Entry) (i : ℕ) (e : Entry) → i < length es → e ≡ get_or es i e
+    → find_first test (entry_views (drop i es)) ≡ find_first test (entry_views es) → test (entry_view e) ≡ true → find_first test (entry_views es) ≡ Some (entry_view e)
+clash_here test es i e lt is so_far h = sym so_far ∙ ap (find_first test) (entries_step es i e lt is) ∙ rw h refl
+
+pub clash_later : (test : Named → Bool) (es : List Entry) (i : ℕ) (e : Entry) → i < length es → e ≡ get_or es i e
+    → find_first test (entry_views (drop i es)) ≡ find_first test (entry_views es) → test (entry_view e) ≡ false → find_first test (entry_views (drop (i + 1) es)) ≡ find_first test (entry_views es)
+clash_later test es i e lt is so_far h =
+    let step : find_first test (entry_views (drop i es)) ≡ find_first test (entry_views (drop (i + 1) es)) = ap (find_first test) (entries_step es i e lt is) ∙ rw h refl in
+    sym step ∙ so_far
+
+-- ---- entries under IDs that rise by one
+
+pub numbered-more : (first : ℕ) (ns : List Named) (n : Named) → numbered first (ns ++ n ∷ []) ≡ numbered first ns ++ (first + length ns, n) ∷ []
+numbered-more first [] n = ap (λ id. (id, n) ∷ []) (sym (add-zero first))
+numbered-more first (m ∷ ns) n =
+    let here : first + 1 + length ns ≡ first + length (m ∷ ns) = omega arith in
+    ap (λ ts. (first, m) ∷ ts) (numbered-more (first + 1) ns n ∙ ap (λ id. numbered (first + 1) ns ++ (id, n) ∷ []) here)
+
+pub listed-more : (ls : List Listed) (first : ℕ) (es : List Entry) (l : Listed) (e : Entry) → types_of ls ≡ numbered first (entry_views es) → l.id ≡ first + length es → l.entry ≡ e
+    → types_of (ls ++ l ∷ []) ≡ numbered first (entry_views (es ++ e ∷ []))
+listed-more ls first es l e so_far id is =
+    let same : type_of l ≡ (first + length (entry_views es), entry_view e) =
+    ap (λ n. (n, entry_view l.entry)) (id ∙ ap (λ n. first + n) (sym (length-map es entry_view))) ∙ ap (λ x. (first + length (entry_views es), entry_view x)) is in
+    map-append type_of ls (l ∷ []) ∙ ap (λ ts. ts ++ type_of l ∷ []) so_far ∙ ap (λ t. numbered first (entry_views es) ++ t ∷ []) same
+    ∙ sym (ap (numbered first) (map-append entry_view es (e ∷ [])) ∙ numbered-more first (entry_views es) (entry_view e))
+
+pub id-more : (id first : ℕ) (es : List Entry) (e : Entry) → id ≡ first + length es → id + 1 ≡ first + length (es ++ e ∷ [])
+id-more id first es e is = omega (arith, is, length-append es (e ∷ []))

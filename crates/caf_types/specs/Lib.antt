@@ -1,7 +1,10 @@
 pub mod ShapeTree
 pub mod Limits
+pub mod Listing
 pub mod Name
 pub mod NameAnswer
+pub mod New
+pub mod Postings
 pub mod Reason
 pub mod Sec
 pub mod Shape

@@ -1,8 +1,9 @@
 -- Type tables: finite maps from IDs to named shapes, and when a block is refused.
-use Rattle.std.specs.Prelude.{ℕ, ◌+◌, ◌-◌, ◌==◌, ◌||◌, nat_lt, bytes_eq, if◌then◌else◌, Bool, true, false, List, [], ◌∷◌, ◌++◌, length, Option, Some, None, is_some, codes, slice_get}
+use Rattle.std.specs.Prelude.{ℕ, ◌+◌, ◌-◌, ◌==◌, ◌||◌, nat_lt, bytes_eq, if◌then◌else◌, Bool, true, false, List, [], ◌∷◌, ◌++◌, length, Option, Some, None, is_some, codes, slice_get, count_by, find as find_first}
 use Rattle.std.specs.List.{position_from}
 use Rattle.std.specs.Option.{option_map}
 use Rattle.caf_types.specs.ShapeTree.{ShapeTree, unit, flag, unsigned, signed, text, bytes, place, list, depth}
+use Rattle.caf_types.specs.declared.limits.TheConstants.{FIRST_ID, LAST_ID, DEEPEST}
 
 -- a type: its name and its shape
 pub record Named : Type 0 where
@@ -84,9 +85,9 @@ pub data Refusal : Type 0 where
   taken_name : List ℕ → Refusal
   too_deep : ℕ → Refusal
 
--- the first ID from 200 to 65,534, and the last one at most 65,534
+-- the first ID and the last one are IDs that a block may have
 abbrev pub is_out_of_range : ℕ → ℕ → Bool
-is_out_of_range first n = nat_lt first 200 || nat_lt 65534 first || nat_lt 65535 (first + n)
+is_out_of_range first n = nat_lt first FIRST_ID || nat_lt LAST_ID first || nat_lt (LAST_ID + 1) (first + n)
 
 abbrev pub has_id : List (ℕ × Named) → ℕ → Bool
 has_id ts id = is_some (type_at ts id)
@@ -103,22 +104,22 @@ abbrev pub name_is_in : List (List ℕ) → List ℕ → Bool
 name_is_in [] name = false
 name_is_in (n ∷ ns) name = if bytes_eq n name then true else name_is_in ns name
 
-abbrev pub is_named_in : List Named → List ℕ → Bool
-is_named_in [] name = false
-is_named_in (n ∷ ns) name = if bytes_eq n.name name then true else is_named_in ns name
+-- how many of the entries have a name
+abbrev pub count_named : List ℕ → List Named → ℕ
+count_named name ns = count_by (λ (n : Named). bytes_eq name n.name) ns
 
--- the first name that a type of the table or an earlier entry has; front are the entries before ns
-abbrev pub first_name : List (ℕ × Named) → List Named → List Named → Option (List ℕ)
-first_name ts front [] = None
-first_name ts front (n ∷ ns) =
-    if has_name ts n.name then Some n.name
-    else if is_named_in front n.name then Some n.name
-    else first_name ts (front ++ n ∷ []) ns
+-- a name is a type's of the table, or stands twice among the entries
+abbrev pub clashes : List (ℕ × Named) → List Named → List ℕ → Bool
+clashes ts ns name = has_name ts name || nat_lt 1 (count_named name ns)
 
--- the least ID of the block whose shape nests past 16
+-- the name of the first entry, in order, whose name clashes
+abbrev pub first_name : List (ℕ × Named) → List Named → Option (List ℕ)
+first_name ts ns = option_map (λ (n : Named). n.name) (find_first (λ (n : Named). clashes ts ns n.name) ns)
+
+-- the least ID of the block whose shape nests too deep
 abbrev pub first_deep : ℕ → List Named → Option ℕ
 first_deep id [] = None
-first_deep id (n ∷ ns) = if nat_lt 16 (depth n.shape) then Some id else first_deep (id + 1) ns
+first_deep id (n ∷ ns) = if nat_lt DEEPEST (depth n.shape) then Some id else first_deep (id + 1) ns
 
 abbrev pub if_some : {A : Type 0} → (A → Refusal) → Option A → Option Refusal
 if_some f None = None
@@ -134,5 +135,5 @@ refusal t block first ns =
     or_else (so (is_out_of_range first (length ns)) out_of_range) (
     or_else (if_some taken_id (first_taken t.types first ns)) (
     or_else (so (name_is_in t.blocks block) (taken_name block)) (
-    or_else (if_some taken_name (first_name t.types [] ns))
+    or_else (if_some taken_name (first_name t.types ns))
     (if_some too_deep (first_deep first ns)))))

@@ -1,4 +1,4 @@
-ghost use Rattle.std.specs.Prelude.{◌≡◌, ◌++◌, ◌∷◌, [], map, IsTrue, OnOk};
+ghost use Rattle.std.specs.Prelude.{◌≡◌, ◌++◌, ◌∷◌, [], map, IsTrue, OnOk, OnErr};
 ghost use Rattle.caf_types.specs.Name.{is_name};
 ghost use Rattle.caf_types.specs.Shape.{tree, field_view, entry_views};
 ghost use Rattle.caf_types.specs.Table.{named};
@@ -7,7 +7,8 @@ use crate::{Entry, Field, Memory, Name, Seq, Shape};
 use sqlite_items::Items;
 use std::alloc::Global;
 
-/// Adds a field at the end, of whose name it is known that it is one.
+/// Adds a field at the end, of whose name it is known that it is one. After want of memory the
+/// fields are as before.
 pub fn declare_field(
     alloc: Global,
     fields: &mut Items<Field>,
@@ -15,14 +16,16 @@ pub fn declare_field(
     shape: Shape,
 ) -> Result<(), Memory>
     requires { IsTrue (is_name name.now) }
-    ensures { OnOk result (map field_view fields.new ≡ map field_view fields.old ++ (name.now, tree shape) ∷ []) }
+    ensures added { OnOk result (map field_view fields.new ≡ map field_view fields.old ++ (name.now, tree shape) ∷ []) }
+    ensures kept { OnErr result (fields.new ≡ fields.old) }
 {
     let name = Name::of(alloc, name)?;
     fields.push(Field { name, shape })?;
     Ok(())
 }
 
-/// Adds an entry at the end, of whose name it is known that it is one.
+/// Adds an entry at the end, of whose name it is known that it is one. After want of memory the
+/// entries are as before.
 pub fn declare_type(
     alloc: Global,
     entries: &mut Seq<Entry>,
@@ -30,7 +33,8 @@ pub fn declare_type(
     shape: Shape,
 ) -> Result<(), Memory>
     requires { IsTrue (is_name name.now) }
-    ensures { OnOk result (entry_views entries.new ≡ entry_views entries.old ++ named name.now (tree shape) ∷ []) }
+    ensures added { OnOk result (entry_views entries.new ≡ entry_views entries.old ++ named name.now (tree shape) ∷ []) }
+    ensures kept { OnErr result (entries.new ≡ entries.old) }
 {
     let name = Name::of(alloc, name)?;
     entries.push(Entry { name, shape })?;

@@ -10,24 +10,29 @@
 //! leaves what it was lent as it was.
 #![tactic(auto)]
 
-mod block;
 mod declare;
-mod law;
+mod filing;
+mod laws;
 mod letters;
 mod limits;
+mod listed;
 mod memory;
 mod name;
+mod names_in_block;
 mod notice;
 mod reason;
 mod sec;
 mod seq;
 mod shape;
 mod table;
+mod table_fault;
 
 pub use declare::{declare_field, declare_type};
-pub use law::block_joins;
+pub use laws::block_joins;
 pub use letters::Letters;
-pub use limits::{LAST_COUNT, LATEST_STAMP, OUTSIDE, PLACES};
+pub use limits::{
+    DEEPEST, FIRST_ID, LAST_COUNT, LAST_ID, LATEST_STAMP, LONGEST_NAME, OUTSIDE, PLACES,
+};
 pub use memory::Memory;
 pub use name::{Name, NameFault};
 pub use notice::{Mid, Notice, Priority};
@@ -36,7 +41,8 @@ pub use sec::Sec;
 pub use seq::{Octets, Places, Seq, TypeIds, Words};
 pub use shape::{Entry, Field, Shape, TypeId};
 pub use sqlite_items::{Boxed, Items};
-pub use table::{TableFault, TypeTable};
+pub use table::TypeTable;
+pub use table_fault::TableFault;
 
 #[cfg(test)]
 mod tests;

@@ -11,3 +11,15 @@ pub const LATEST_STAMP: u64 = 1 << 40;
 
 /// The last number of a request, and the last count of ticks.
 pub const LAST_COUNT: u64 = 1 << 63;
+
+/// The first ID that a block may have; those below are for the built-in types.
+pub const FIRST_ID: u16 = 200;
+
+/// The last ID that a block may have.
+pub const LAST_ID: u16 = 65_534;
+
+/// How deep a declared shape nests at most. A shape without parts nests 1.
+pub const DEEPEST: u64 = 16;
+
+/// How many bytes a name has at most.
+pub const LONGEST_NAME: usize = 64;

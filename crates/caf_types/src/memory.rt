@@ -1,4 +1,4 @@
-use std::alloc::AllocError;
+use std::alloc::{AllocError, AllocFailed};
 use thiserror::Error;
 
 /// Want of memory: the one refusal that no contract ties to a cause.
@@ -10,6 +10,13 @@ pub struct Memory;
 
 impl From<AllocError> for Memory {
     fn from(_: AllocError) -> Memory {
+        Memory
+    }
+}
+
+/// What could not be stored is let go.
+impl<T: Drop> From<AllocFailed<T>> for Memory {
+    fn from(_: AllocFailed<T>) -> Memory {
         Memory
     }
 }

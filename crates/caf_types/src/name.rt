@@ -1,12 +1,13 @@
-ghost use Rattle.std.specs.Prelude.{◌≡◌, IsTrue, IfOk};
+ghost use Rattle.std.specs.Prelude.{◌≡◌, Some, IsTrue, IfOk};
 ghost use Rattle.std.specs.List.{list_all};
 ghost use Rattle.caf_types.specs.Name as names;
 ghost use Rattle.caf_types.specs.Name.{is_name};
 ghost use Rattle.caf_types.specs.NameAnswer.{NameAnswer};
 ghost use Rattle.caf_types.specs.declared.name.NameFault.TheVariants as faults;
 
-use crate::{Letters, Memory};
+use crate::{LONGEST_NAME, Letters, Memory};
 use std::alloc::Global;
+use std::fmt;
 use std::marker::Model;
 use thiserror::Error;
 
@@ -16,6 +17,7 @@ pub enum NameFault {
     /// The text isn't 1 to 64 bytes of `a` to `z`, `0` to `9` and `_`.
     #[error("not a name")]
     Form,
+    /// Want of memory.
     #[error("out of memory")]
     Memory,
 }
@@ -77,11 +79,21 @@ impl Name {
     }
 }
 
+/// Writes the text itself.
+impl fmt::Display for Name {
+    ghost output = { λ name. Some name };
+
+    fn fmt<W: fmt::Write>(&self, f: &mut fmt::Formatter<W>) -> fmt::Result {
+        let text = self.as_str();
+        write!(f, "{text}")
+    }
+}
+
 fn is_name_text(text: &str) -> bool
     ensures { result ≡ is_name text.now }
 {
     let length = text.len();
-    if length < 1 || length > 64 {
+    if length < 1 || length > LONGEST_NAME {
         return false;
     }
     are_name_bytes(text.as_bytes())

@@ -1,12 +1,17 @@
 ghost use Rattle.std.specs.Prelude.{◌≡◌};
 ghost use Rattle.caf_types.specs.Reason.{reason_number, reason_name, reason_named};
 
-/// Why an actor quit.
+/// Why an actor quit. `Normal`, `UserShutdown` and `Kill` are named after the CAF manual's exit reasons; the
+/// numbers are this project's own.
 #[derive(Clone, Copy, Debug, PartialEq, Eq, Drop)]
 pub enum Reason {
+    /// It was done.
     Normal = 0,
+    /// A user wanted it to end.
     UserShutdown = 1,
+    /// It had to end at once, as every actor does when a run stops.
     Kill = 2,
+    /// It couldn't go on.
     Failed = 3,
 }
 

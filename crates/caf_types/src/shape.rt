@@ -1,28 +1,44 @@
-ghost use Rattle.std.specs.Prelude.{◌≡◌, nat_lt, IfOk};
+ghost use Rattle.std.specs.Prelude.{◌≡◌, nat_lt, IfOk, Some, decimal};
 ghost use Rattle.caf_types.specs.ShapeTree.{list, object, depth, parts_depth};
 ghost use Rattle.caf_types.specs.Shape.{tree, parts};
 
 use crate::{Memory, Name};
 use sqlite_items::{Boxed, Items};
 use std::alloc::Global;
+use std::fmt;
 
-/// The number of a type. IDs 0 to 9 are built in, and blocks have IDs from 200 to 65,534.
+/// The number of a type. IDs 0 to 9 are built in, and blocks have IDs from
+/// [`FIRST_ID`](crate::FIRST_ID) to [`LAST_ID`](crate::LAST_ID).
 #[derive(Clone, Copy, Debug, PartialEq, Eq, Drop)]
 pub struct TypeId(pub u16);
+
+/// Writes the number alone.
+impl fmt::Display for TypeId {
+    ghost output = { λ id. Some (decimal id.0) };
+
+    fn fmt<W: fmt::Write>(&self, f: &mut fmt::Formatter<W>) -> fmt::Result {
+        let TypeId(id) = *self;
+        write!(f, "{id}")
+    }
+}
 
 /// What the values of a type look like.
 #[derive(Debug, Drop)]
 #[cycle(shape)]
 pub enum Shape {
+    /// The one value without content.
     Unit,
+    /// False or true.
     Flag,
     /// A whole number of 64 bits.
     Unsigned,
     /// A whole number of 64 bits in two's complement.
     Signed,
+    /// A text in UTF-8.
     Text,
+    /// Any bytes.
     Bytes,
-    /// The number of a place, below 256.
+    /// The number of a place, below [`PLACES`](crate::PLACES).
     Place,
     /// Any number of values of one shape.
     List(Boxed<Shape>),
@@ -34,14 +50,18 @@ pub enum Shape {
 #[derive(Debug, Drop)]
 #[cycle(shape)]
 pub struct Field {
+    /// The field's name.
     pub name: Name,
+    /// The shape of the field's values.
     pub shape: Shape,
 }
 
 /// A type that a block declares.
 #[derive(Debug, Drop)]
 pub struct Entry {
+    /// The type's name.
     pub name: Name,
+    /// The shape of the type's values.
     pub shape: Shape,
 }
 

@@ -1,5 +1,12 @@
+ghost use Rattle.std.specs.Prelude.{◌≡◌, ◌∷◌, [], IfOk, codes};
+ghost use Rattle.caf_types.specs.ShapeTree.{unit};
+ghost use Rattle.caf_types.specs.Table.{named, with_block, built_in};
+ghost use Rattle.caf_types.specs.TypeTable.{seen};
+ghost use Rattle.caf_types.specs.Postings.{postings};
+
 use crate::{
-    Entry, Name, NameFault, Reason, Sec, Seq, Shape, TableFault, TypeId, TypeTable, type_block,
+    Entry, Memory, Name, NameFault, Reason, Sec, Seq, Shape, TableFault, TypeId, TypeTable,
+    declare_type, type_block,
 };
 use std::alloc::Global;
 use std::test::Fail;
@@ -61,6 +68,10 @@ fn a_block_is_added_or_its_first_fault_told(rt: HostRuntime) -> Result<(), Fail>
     assert!(rt; matches!(&entry, Err(TableFault::Name(name)) if name.as_str() == "text"));
     let twice = table.add_block(Name::new(alloc, "more")?, 300, two(alloc, "c", "c")?);
     assert!(rt; matches!(&twice, Err(TableFault::Name(name)) if name.as_str() == "c"));
+    let mut around = two(alloc, "a_first", "text")?;
+    declare_type(alloc, &mut around, "a_first", Shape::Unit)?;
+    let first = table.add_block(Name::new(alloc, "more")?, 300, around);
+    assert!(rt; matches!(&first, Err(TableFault::Name(name)) if name.as_str() == "a_first"));
     let deep = table.add_block(
         Name::new(alloc, "more")?,
         300,
@@ -76,14 +87,22 @@ fn a_block_is_added_or_its_first_fault_told(rt: HostRuntime) -> Result<(), Fail>
     Ok(())
 }
 
-#[test]
-fn a_block_is_declared_and_looked_up(rt: HostRuntime) -> Result<(), Fail> {
-    let alloc = rt.alloc();
+/// A table of two types, declared by the macros; its clause tells them whole.
+fn postings_table(alloc: Global) -> Result<TypeTable, TableFault>
+    ensures { IfOk result (λ table. seen table ≡ with_block built_in (codes "core") 200
+        (named (codes "start") unit ∷ named (codes "postings") postings ∷ [])) }
+{
     let mut table = TypeTable::new(alloc)?;
     type_block!(alloc, table, core, 200, {
         start: Unit,
         postings: { file: Unsigned, items: [{ word: Text, line: Unsigned }] },
     })?;
+    Ok(table)
+}
+
+#[test]
+fn a_block_is_declared_and_looked_up(rt: HostRuntime) -> Result<(), Fail> {
+    let table = postings_table(rt.alloc())?;
     assert_eq!(rt; table.find("postings"), Some(TypeId(201)));
     assert_eq!(rt; table.find("places"), Some(TypeId(9)));
     assert_eq!(rt; table.find("core"), None);
@@ -94,6 +113,34 @@ fn a_block_is_declared_and_looked_up(rt: HostRuntime) -> Result<(), Fail> {
     assert!(rt; matches!(table.shape(TypeId(5)), Some(Shape::Bytes)));
     assert!(rt; table.shape(TypeId(10)).is_none() && table.shape(TypeId(202)).is_none());
     assert!(rt; matches!(table.name(TypeId(8)), Some(name) if name.as_str() == "texts"));
+    Ok(())
+}
+
+#[test]
+fn faults_tell_what_they_carry(rt: HostRuntime) -> Result<(), Fail> {
+    let alloc = rt.alloc();
+    for (fault, text) in [
+        (TableFault::Taken(TypeId(200)), "type ID 200 is taken"),
+        (
+            TableFault::Name(Name::new(alloc, "core")?),
+            "name core is taken",
+        ),
+        (TableFault::Range, "type IDs are not from 200 to 65534"),
+        (
+            TableFault::Deep(TypeId(201)),
+            "the shape of type ID 201 nests past 16",
+        ),
+        (TableFault::Memory, "out of memory"),
+    ] {
+        assert_eq!(rt; fault.to_string(alloc)?.as_str(), text);
+    }
+    for (fault, text) in [
+        (NameFault::Form, "not a name"),
+        (NameFault::Memory, "out of memory"),
+    ] {
+        assert_eq!(rt; fault.to_string(alloc)?.as_str(), text);
+    }
+    assert_eq!(rt; Memory.to_string(alloc)?.as_str(), "out of memory");
     Ok(())
 }
 

@@ -2,7 +2,7 @@ use Rattle.std.proofs.Common.{◌∙◌, ap}
 use Rattle.std.specs.Option.{option_map}
 use Rattle.caf_types.specs.Table.{Named, type_at, type_in}
 use Rattle.caf_types.proofs.TableLemmas.{type_joins, id_joins, map_or_else}
-use Rattle.caf_types.proofs.law.block_joins.Goals as goal
+use Rattle.caf_types.proofs.laws.block_joins.Goals as goal
 
 pub returns-clause-shapes : goal.returns-clause-shapes
 returns-clause-shapes c = λ t block first ns id.
