@@ -62,3 +62,11 @@ meant f d e es rest h is took = same_value e d rest [] (sym took ∙ taken_whole
 -- what was loaded means the value that was read
 pub loaded : (Has : Datum → Type 0) (f : ShapeTree) (d e : Datum) (es rest : List Event) → Has d → fits f d ≡ true → es ≡ events f d → taking f es ≡ Some (e, rest) → Has e
 loaded Has f d e es rest has h is took = subst Has (sym (meant f d e es rest h is took)) has
+
+pub same_form : (f g : ShapeTree) → Some f ≡ Some g → f ≡ g
+same_form f g e = cc
+
+-- what a loader of a value has started with
+pub started : (Has : Datum → Type 0) (At : List ℕ → Type 0) (f : ShapeTree) (d : Datum) (es : List Event) → Has d → fits f d ≡ true → es ≡ events f d
+    → (e : Datum) × Has e × (fits f e ≡ true) × (es ≡ events f e) × (taking f es ≡ Some (e, []))
+started Has At f d es has fit is = (d, has, fit, is, taken_whole f d es fit is)

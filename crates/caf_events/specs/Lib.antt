@@ -5,4 +5,3 @@ pub mod Tells
 pub mod Taking
 pub mod LoadAnswer
 pub mod Queue
-pub mod Fitting

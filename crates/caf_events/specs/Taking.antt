@@ -1,7 +1,7 @@
 -- Taking a value of a shape from the front of events; none where the next events are those of no value of it.
 use Rattle.std.specs.Prelude.{ℕ, zero, suc, ◌==◌, nat_lt, if◌then◌else◌, Bool, true, false, ℤ, List, [], ◌∷◌, Option, Some, None, bytes_eq}
 use Rattle.caf_types.specs.ShapeTree as tree
-use Rattle.caf_types.specs.declared.limits.TheConstants.{PLACES}
+use Rattle.caf_types.specs.Limits.{places}
 use Rattle.caf_types.specs.ShapeTree.{ShapeTree, Parts, no_parts, part, count_parts}
 use Rattle.caf_words.specs.Datum.{Datum, a_unit, a_flag, an_unsigned, a_signed, a_text, some_bytes, a_place, a_list, an_object, Data, no_data, more}
 use Rattle.caf_events.specs.Event.{Event, unit, flag, unsigned, signed, text, bytes, place, list, object, field}
@@ -85,7 +85,7 @@ many one (suc n) es = then_more one (many one n) es
 
 -- the number of a place
 abbrev pub below_places : ℕ → Option ℕ
-below_places n = if nat_lt n PLACES then Some n else None
+below_places n = if nat_lt n places then Some n else None
 
 abbrev pub counted : ℕ → ℕ → Option (Unit {0})
 counted n m = so (n == m)

@@ -11,9 +11,10 @@ pub enum LoadFault {
     /// The input is no form of the type's shape. The numbers tell where, each form in its own way:
     /// for words the one place of the first fault; for JSON the positions that lead down to the
     /// first part that is missing or isn't of its shape; for text the length in bytes of the longest
-    /// front of the text that is the front of some text form of the shape.
-    #[error("not a form of the type")]
+    /// prefix of the text that is a prefix of some text form of the shape.
+    #[error("not a form of the type, at {:?}", .0.as_slice())]
     Unfit(Seq<u64>),
+    /// Want of memory.
     #[error("out of memory")]
     Memory,
 }

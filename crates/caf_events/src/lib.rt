@@ -9,6 +9,7 @@
 #![tactic(auto)]
 
 mod fault;
+mod fields;
 mod inspection;
 mod item;
 mod laws;
@@ -29,3 +30,6 @@ pub use queue::EventQueue;
 pub use range::measured;
 pub use save::Save;
 pub use values::{load_value, save_value};
+
+#[cfg(test)]
+mod tests;

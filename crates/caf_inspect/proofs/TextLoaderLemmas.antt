@@ -7,7 +7,8 @@ use Rattle.caf_text.specs.TextForm as texts
 use Rattle.caf_text.specs.TextForm.{IsValue, AreValues, HasText}
 use Rattle.caf_text.specs.declared.stop.TextFault.{TextFault}
 use Rattle.caf_text.specs.declared.stop.TextFault.TheVariants as found
-use Rattle.caf_events.specs.LoadAnswer.{Refused, TextFailsAt, AtLength}
+use Rattle.caf_events.specs.LoadAnswer.{Refused}
+use Rattle.caf_inspect.specs.LoadAnswer.{TextFailsAt, AtLength}
 use Rattle.caf_events.proofs.OfShapeLemmas.{IsOf, PartsAre, AllAre}
 use Rattle.caf_events.specs.declared.fault.LoadFault.{LoadFault}
 use Rattle.caf_events.specs.declared.fault.LoadFault.TheVariants as faults

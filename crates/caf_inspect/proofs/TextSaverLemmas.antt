@@ -6,8 +6,7 @@ use Rattle.caf_text.specs.TextForm.{comma, colon, joined, text_form, fields_text
 use Rattle.caf_events.specs.Event as event
 use Rattle.caf_events.specs.Event.{Event, events, each_events, part_events}
 use Rattle.caf_inspect.specs.TextStack.{Frame, in_list, in_object, State, state, give, steps, step}
-use Rattle.caf_events.proofs.OfShapeLemmas.{IsOf, PartsAre, AllAre}
-use Rattle.caf_inspect.proofs.WordSaverLemmas.{count_of}
+use Rattle.caf_events.proofs.OfShapeLemmas.{IsOf, PartsAre, AllAre, count_of}
 
 abbrev Builds : (Datum → Type 0) → (Datum → List Event) → (Datum → List ℕ) → Type 0
 Builds P one form_of = (d : Datum) → P d → (fs : List Frame) (t : List ℕ) (rest : List Event) → steps (state fs t) (one d ++ rest) ≡ steps (give fs (t ++ form_of d)) rest

@@ -6,15 +6,12 @@ use Rattle.caf_text.specs.TextForm as texts
 use Rattle.caf_text.specs.TextForm.{IsValue, AreValues}
 use Rattle.caf_events.specs.Event.{Event, events, each_events, part_events}
 use Rattle.caf_events.proofs.OfShapeLemmas.{IsOf, PartsAre, AllAre}
+use Rattle.caf_events.proofs.RangeLemmas.{range_split}
 use Rattle.caf_events.specs.Range.{AreInRange}
-
-front_in : (xs ys : List Event) → AreInRange (xs ++ ys) → AreInRange xs × AreInRange ys
-front_in [] ys h = (tt, h)
-front_in (x ∷ xs) ys h = let p = front_in xs ys h.1 in ((h.0, p.0), p.1)
 
 each_value : (P V : Datum → Type 0) (one : Datum → List Event) → ((d : Datum) → P d → AreInRange (one d) → V d) → (ds : Data) → AllAre P ds → AreInRange (each_events one ds) → texts.AllAre V ds
 each_value P V one g no_data h r = tt
-each_value P V one g (more d ds) h r = let p = front_in (one d) (each_events one ds) r in (g d h.0 p.0, each_value P V one g ds h.1 p.1)
+each_value P V one g (more d ds) h r = let p = range_split (one d) (each_events one ds) r in (g d h.0 p.0, each_value P V one g ds h.1 p.1)
 
 mutual
   pub is_value : (f : ShapeTree) (d : Datum) → IsOf f d → AreInRange (events f d) → IsValue f d
@@ -32,5 +29,5 @@ mutual
   are_values no_parts ds h r = h
   are_values (part name f ps) ds h r =
       let q = subst (λ x. AreInRange (part_events (part name f ps) x)) h.4 r in
-      let p = front_in (events f h.0) (part_events ps h.1) q.1 in
+      let p = range_split (events f h.0) (part_events ps h.1) q.1 in
       (h.0, h.1, is_value f h.0 h.2 p.0, are_values ps h.1 h.3 p.1, h.4)

@@ -10,7 +10,8 @@ use Rattle.caf_words.specs.Answer.{Faulty}
 use Rattle.caf_words.specs.declared.stop.SpellFault.{SpellFault}
 use Rattle.caf_words.specs.declared.stop.SpellFault.TheVariants as spell_faults
 use Rattle.caf_words.specs.Value.{datum}
-use Rattle.caf_events.specs.LoadAnswer.{Refused, WordsFailAt, Placed}
+use Rattle.caf_events.specs.LoadAnswer.{Refused}
+use Rattle.caf_inspect.specs.LoadAnswer.{WordsFailAt, Placed}
 use Rattle.caf_events.specs.declared.fault.LoadFault.{LoadFault}
 use Rattle.caf_events.specs.declared.fault.LoadFault.TheVariants as faults
 use Rattle.caf_words.specs.declared.value.Value.{Value}

@@ -7,7 +7,8 @@ use Rattle.caf_types.specs.ShapeTree.{ShapeTree, Parts, no_parts, part, count_pa
 use Rattle.caf_words.specs.Datum.{Datum, a_text, some_bytes, Data, no_data, more, count}
 use Rattle.caf_words.specs.Spelling.{spelling, spellings, Spells, EachSpells, PartsSpell}
 use Rattle.caf_events.specs.Event.{Event, events, each_events, part_events}
-use Rattle.caf_events.proofs.OfShapeLemmas.{IsOf, PartsAre, AllAre}
+use Rattle.caf_events.proofs.OfShapeLemmas.{IsOf, PartsAre, AllAre, count_of}
+use Rattle.caf_events.proofs.RangeLemmas.{range_split}
 use Rattle.caf_events.specs.Range.{AreInRange}
 use Rattle.caf_inspect.specs.WordForm.{words_of, all_words}
 
@@ -17,10 +18,6 @@ joined xs ys a b p q = flat_map-append words_of xs ys ∙ cc
 each_saved : (P : Datum → Type 0) (one : Datum → List Event) → ((d : Datum) → P d → all_words (one d) ≡ spelling d) → (ds : Data) → AllAre P ds → all_words (each_events one ds) ≡ spellings ds
 each_saved P one s no_data h = refl
 each_saved P one s (more d ds) h = joined (one d) (each_events one ds) (spelling d) (spellings ds) (s d h.0) (each_saved P one s ds h.1)
-
-pub count_of : (ps : Parts) (ds : Data) → PartsAre ps ds → count ds ≡ count_parts ps
-count_of no_parts ds h = ap count h
-count_of (part name f ps) ds h = ap count h.4 ∙ (let e = count_of ps h.1 h.3 in omega (arith, e))
 
 mutual
   pub all_saved : (f : ShapeTree) (d : Datum) → IsOf f d → all_words (events f d) ≡ spelling d
@@ -41,15 +38,11 @@ mutual
 
 -- ---- with numbers in range, the words spell the value
 
-pub in_front : (xs ys : List Event) → AreInRange (xs ++ ys) → AreInRange xs × AreInRange ys
-in_front [] ys h = (tt, h)
-in_front (x ∷ xs) ys h = let p = in_front xs ys h.1 in ((h.0, p.0), p.1)
-
 each_spells : (P : Datum → Type 0) (S : Datum → List ℕ → Type 0) (one : Datum → List Event) → ((d : Datum) → P d → AreInRange (one d) → S d (spelling d))
     → (ds : Data) → AllAre P ds → AreInRange (each_events one ds) → EachSpells S ds (spellings ds)
 each_spells P S one s no_data h r = refl
 each_spells P S one s (more d ds) h r =
-    let p = in_front (one d) (each_events one ds) r in
+    let p = range_split (one d) (each_events one ds) r in
     (spelling d, spellings ds, s d h.0 p.0, each_spells P S one s ds h.1 p.1, refl)
 
 mutual
@@ -72,5 +65,5 @@ mutual
   parts_spell no_parts ds h r = (h, ap spellings h)
   parts_spell (part name f ps) ds h r =
       let q = subst (λ x. AreInRange (part_events (part name f ps) x)) h.4 r in
-      let p = in_front (events f h.0) (part_events ps h.1) q.1 in
+      let p = range_split (events f h.0) (part_events ps h.1) q.1 in
       (h.0, h.1, h.4, spelling h.0, spellings h.1, all_spell f h.0 h.2 p.0, parts_spell ps h.1 h.3 p.1, ap spellings h.4)

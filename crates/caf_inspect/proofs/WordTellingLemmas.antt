@@ -3,13 +3,10 @@ use Rattle.std.proofs.Common.{◌≡◌, ℕ, List, [], ◌∷◌, ◌++◌, sym
 use Rattle.std.proofs.lemmas.List.{append-nil}
 use Rattle.std.proofs.lemmas.List.Concat.{flat_map-append}
 use Rattle.caf_events.specs.Event.{Event}
-use Rattle.caf_events.specs.Range.{IsInRange, AreInRange}
+use Rattle.caf_events.specs.Range.{IsInRange}
 use Rattle.caf_events.specs.Tells.{Tells}
+use Rattle.caf_events.proofs.RangeLemmas.{range_more}
 use Rattle.caf_inspect.specs.WordForm.{words_of, all_words, SavesWords}
-
-pub range_more : (es : List Event) (e : Event) → AreInRange es → IsInRange e → AreInRange (es ++ e ∷ [])
-range_more [] e h i = (i, tt)
-range_more (x ∷ es) e h i = (h.0, range_more es e h.1 i)
 
 pub word_told : {old new : List ℕ} {e : Event} → new ≡ old ++ words_of e → IsInRange e → Tells SavesWords old new (e ∷ [])
 word_told {old = old} {new = new} {e = e} added range = record {

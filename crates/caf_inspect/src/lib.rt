@@ -29,3 +29,6 @@ pub use text_loader::{InText, TextLoader};
 pub use text_saver::TextSaver;
 pub use word_loader::{InWords, WordLoader};
 pub use word_saver::WordSaver;
+
+#[cfg(test)]
+mod tests;

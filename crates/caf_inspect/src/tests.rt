@@ -1,31 +1,45 @@
-ghost use Rattle.std.specs.Prelude.{◌≡◌, [], ◌∷◌, codes, cond, map, nat_lt, true, false, Some, IfOk, OnOk, refl};
+ghost use Rattle.std.specs.Prelude.{◌≡◌, [], ◌∷◌, codes, map, ◌<◌, Some, IfOk, OnOk, refl};
 ghost use Rattle.caf_types.specs.ShapeTree.{unit, flag, unsigned, signed, text, bytes, place, list, object, no_parts, part};
 ghost use Rattle.caf_types.specs.Table.{shape_at, with_block, built_in, named};
 ghost use Rattle.caf_types.specs.TypeTable.{seen};
 ghost use Rattle.caf_words.specs.Datum.{a_unit, a_flag, an_unsigned, a_signed, a_text, some_bytes, a_place, a_list, an_object, more, no_data, data_of};
 ghost use Rattle.caf_events.specs.Event as events;
-ghost use Rattle.caf_events.specs.Fitting.{both_hold, all_hold};
+ghost use Rattle.caf_words.specs.Fitting.{both_hold, list_fits};
+ghost use Rattle.std.proofs.Common.{lt-ltb};
 ghost use Rattle.caf_events.specs.Tells.{Tells};
 
 use crate::{
-    Inspect, JsonLoader, Load, LoadFault, Save, WordLoader, from_json, from_text, from_words,
+    Inspect, Json, JsonLoader, Load, LoadFault, Save, WordLoader, from_json, from_text, from_words,
     load_list, save_list, to_json, to_text, to_words,
 };
+use caf_events::{load_fields, one_type, save_fields};
 use caf_types::{Letters, Memory, Octets, Seq, TypeId, TypeTable, type_block};
-use serde_json::Value as Json;
 use std::alloc::Global;
 use std::test::Fail;
 
+/// What an index tells of itself.
 #[derive(Drop)]
 struct Summary {
     words: u64,
     postings: u64,
+    name: Letters,
+}
+
+/// Hands on the fields of a summary, each with its shape.
+macro_rules! summary_fields {
+    ($then:ident, $($given:tt)*) => {
+        $then!($($given)*, { words: Unsigned, postings: Unsigned, name: Text })
+    };
 }
 
 impl Inspect for Summary {
-    ghost shape = { object (part (codes "words") unsigned (part (codes "postings") unsigned no_parts)) };
+    ghost shape = {
+        object (part (codes "words") unsigned (part (codes "postings") unsigned (part (codes "name") text no_parts)))
+    };
 
-    ghost means = { λ it. an_object (more (an_unsigned it.words) (more (an_unsigned it.postings) no_data)) };
+    ghost means = {
+        λ it. an_object (more (an_unsigned it.words) (more (an_unsigned it.postings) (more (a_text it.name) no_data)))
+    };
 
     ghost id = { 200 };
 
@@ -33,38 +47,76 @@ impl Inspect for Summary {
         TypeId(200)
     }
 
+    #[tactic(auto, using(caf_events::proofs::TellingLemmas::tells_cons))]
     fn save<S: Save>(&self, saver: &mut S) -> Result<(), Memory> {
-        saver.object(2)?;
-        saver.field("words")?;
-        saver.unsigned(self.words)?;
-        saver.field("postings")?;
-        saver.unsigned(self.postings)?;
-        Ok(())
+        summary_fields!(save_fields, self, saver)
     }
 
-    fn load<L: Load>(_alloc: Global, loader: &mut L) -> Result<Summary, Memory> {
-        loader.object();
-        loader.field("words");
-        let words = loader.unsigned();
-        loader.field("postings");
-        let postings = loader.unsigned();
-        Ok(Summary { words, postings })
+    fn load<L: Load>(alloc: Global, loader: &mut L) -> Result<Summary, Memory> {
+        summary_fields!(load_fields, alloc, loader, Summary)
+    }
+
+    ghost fits_shape = { λ it. refl };
+}
+
+/// A level. Numbers that have no name are levels too.
+#[derive(Drop)]
+enum Level {
+    Low,
+    High,
+    Other(u64),
+}
+
+impl Inspect for Level {
+    ghost use Rattle.caf_inspect.specs.declared.tests.Level.TheVariants as levels;
+
+    ghost shape = { unsigned };
+
+    ghost means = { λ it. an_unsigned (elim it [ levels.Low ↦ 0 | levels.High ↦ 1 | levels.Other n ↦ n ]) };
+
+    ghost id = { 201 };
+
+    fn type_id() -> TypeId {
+        TypeId(201)
+    }
+
+    fn save<S: Save>(&self, saver: &mut S) -> Result<(), Memory> {
+        match self {
+            Level::Low => saver.unsigned(0),
+            Level::High => saver.unsigned(1),
+            Level::Other(number) => saver.unsigned(*number),
+        }
+    }
+
+    fn load<L: Load>(_alloc: Global, loader: &mut L) -> Result<Level, Memory> {
+        match loader.unsigned() {
+            0 => Ok(Level::Low),
+            1 => Ok(Level::High),
+            number => Ok(Level::Other(number)),
+        }
     }
 
     ghost fits_shape = { λ it. refl };
 }
 
 fn declared_table(alloc: Global) -> Result<TypeTable, Fail>
-    ensures { IfOk result (λ t. seen t ≡ with_block built_in (codes "demo") 200 (named (codes "summary") (object (part (codes "words") unsigned (part (codes "postings") unsigned no_parts))) ∷ [])) }
+    ensures {
+        IfOk result (λ t. seen t ≡ with_block built_in (codes "demo") 200 (named (codes "summary")
+            (object (part (codes "words") unsigned (part (codes "postings") unsigned (part (codes "name") text no_parts))))
+            ∷ []))
+    }
 {
     let mut table = TypeTable::new(alloc)?;
-    type_block!(alloc, table, demo, 200, { summary: { words: Unsigned, postings: Unsigned } })?;
+    summary_fields!(one_type, alloc, table, demo, 200, summary)?;
     Ok(table)
 }
 
 /// A table with the type `summary`, 200.
 fn demo_table(alloc: Global) -> Result<TypeTable, Fail>
-    ensures { IfOk result (λ t. shape_at (seen t) 200 ≡ Some (object (part (codes "words") unsigned (part (codes "postings") unsigned no_parts)))) }
+    ensures {
+        IfOk result (λ t. shape_at (seen t) 200 ≡ Some
+            (object (part (codes "words") unsigned (part (codes "postings") unsigned (part (codes "name") text no_parts)))))
+    }
 {
     let table = declared_table(alloc)?;
     Ok(table)
@@ -75,24 +127,42 @@ fn json(alloc: Global, text: &str) -> Result<Json, Fail> {
 }
 
 #[test]
-fn a_summary_goes_through_words_and_json(rt: HostRuntime) -> Result<(), Fail> {
+fn a_summary_goes_through_each_form(rt: HostRuntime) -> Result<(), Fail> {
     let alloc = rt.alloc();
     let table = demo_table(alloc)?;
     let summary = Summary {
         words: 3,
         postings: 4,
+        name: Letters::of(alloc, "caf")?,
     };
     let words = to_words(alloc, &summary)?;
-    assert_eq!(rt; words.as_slice(), [2, 3, 4].as_slice());
+    assert_eq!(rt; words.as_slice(), [3, 3, 4, 3, 6_709_603].as_slice());
     let form = to_json(alloc, &summary)?;
     assert_eq!(rt;
         form.to_string(alloc)?.as_str(),
-        r#"{"postings":4,"words":3}"#
+        r#"{"name":"caf","postings":4,"words":3}"#
     );
+    let text = r#"{words: 3, postings: 4, name: "caf"}"#;
+    assert_eq!(rt; to_text(alloc, &summary)?.as_str(), text);
     let read: Summary = from_words(alloc, &table, words.as_slice())?;
-    assert_eq!(rt; (read.words, read.postings), (3, 4));
+    assert_eq!(rt; (read.words, read.postings, read.name.as_str()), (3, 4, "caf"));
     let read: Summary = from_json(alloc, &table, &form)?;
-    assert_eq!(rt; (read.words, read.postings), (3, 4));
+    assert_eq!(rt; (read.words, read.postings, read.name.as_str()), (3, 4, "caf"));
+    let read: Summary = from_text(alloc, &table, text)?;
+    assert_eq!(rt; (read.words, read.postings, read.name.as_str()), (3, 4, "caf"));
+    let answer: Result<Summary, LoadFault> = from_text(alloc, &table, "{words: x");
+    assert!(rt;
+        matches!(&answer, Err(LoadFault::Unfit(path)) if path.as_slice() == [8].as_slice())
+    );
+    Ok(())
+}
+
+#[test]
+fn levels_are_numbers(rt: HostRuntime) -> Result<(), Fail> {
+    let alloc = rt.alloc();
+    for (level, number) in [(Level::Low, 0), (Level::High, 1), (Level::Other(7), 7)] {
+        assert_eq!(rt; to_words(alloc, &level)?.as_slice(), [number].as_slice());
+    }
     Ok(())
 }
 
@@ -261,14 +331,9 @@ struct Sample {
     change: i64,
     name: Letters,
     mark: Octets,
-    is_far: bool,
+    home: u32,
     lines: Seq<Line>,
-}
-
-fn home(is_far: bool) -> u32
-    ensures { result ≡ cond is_far 255 7 }
-{
-    if is_far { 255 } else { 7 }
+    ghost near: { home < 256 },
 }
 
 fn tell_change<S: Save>(sample: &Sample, saver: &mut S) -> Result<(), Memory>
@@ -311,7 +376,7 @@ impl Inspect for Sample {
 
     ghost shape = { object (part (codes "nothing") unit (part (codes "done") flag (part (codes "count") unsigned (part (codes "change") signed (part (codes "name") text (part (codes "mark") bytes (part (codes "home") place (part (codes "lines") (list (object (part (codes "word") text (part (codes "line") unsigned no_parts)))) no_parts)))))))) };
 
-    ghost means = { λ it. an_object (more a_unit (more (a_flag it.done) (more (an_unsigned it.count) (more (a_signed it.change) (more (a_text it.name) (more (some_bytes it.mark) (more (a_place (cond it.is_far 255 7)) (more (a_list (data_of (map (λ (l : Line). an_object (more (a_text l.word) (more (an_unsigned l.number) no_data))) it.lines))) no_data)))))))) };
+    ghost means = { λ it. an_object (more a_unit (more (a_flag it.done) (more (an_unsigned it.count) (more (a_signed it.change) (more (a_text it.name) (more (some_bytes it.mark) (more (a_place it.home) (more (a_list (data_of (map (λ (l : Line). an_object (more (a_text l.word) (more (an_unsigned l.number) no_data))) it.lines))) no_data)))))))) };
 
     ghost id = { 200 };
 
@@ -324,7 +389,7 @@ impl Inspect for Sample {
         tell_texts(
             self.name.as_str(),
             self.mark.as_slice(),
-            home(self.is_far),
+            self.home,
             saver,
         )?;
         saver.field("lines")?;
@@ -350,21 +415,18 @@ impl Inspect for Sample {
         let home = loader.place();
         loader.field("lines");
         let lines = load_list(alloc, loader)?;
-        if home != 7 && home != 255 {
-            return Err(Memory);
-        }
         Ok(Sample {
             done,
             count,
             change,
             name,
             mark,
-            is_far: home == 255,
+            home,
             lines,
         })
     }
 
-    ghost fits_shape = { λ it. both_hold _ _ (elim it.is_far as (λ b. nat_lt (cond b 255 7) 256 ≡ true) [ true ↦ refl | false ↦ refl ]) (both_hold _ _ (all_hold _ (λ (l : Line). an_object (more (a_text l.word) (more (an_unsigned l.number) no_data))) (λ (l : Line). refl) it.lines) refl) };
+    ghost fits_shape = { λ it. both_hold (lt-ltb it.home 256 it.near) (both_hold (list_fits (object (part (codes "word") text (part (codes "line") unsigned no_parts))) (λ (l : Line). an_object (more (a_text l.word) (more (an_unsigned l.number) no_data))) (λ (l : Line). refl) it.lines) refl) };
 }
 
 fn declared_samples(alloc: Global) -> Result<TypeTable, Fail>
@@ -407,7 +469,7 @@ fn first_sample(alloc: Global) -> Result<Sample, Fail> {
         change: i64::MIN,
         name: Letters::of(alloc, "caf")?,
         mark,
-        is_far: true,
+        home: 255,
         lines,
     })
 }
@@ -460,26 +522,5 @@ fn each_kind_of_shape_goes_through_text(rt: HostRuntime) -> Result<(), Fail> {
     assert_eq!(rt; to_text(alloc, &sample)?.as_str(), text);
     let read: Sample = from_text(alloc, &table, text)?;
     assert_eq!(rt; to_text(alloc, &read)?.as_str(), text);
-    Ok(())
-}
-
-#[test]
-fn a_summary_goes_through_text(rt: HostRuntime) -> Result<(), Fail> {
-    let alloc = rt.alloc();
-    let table = demo_table(alloc)?;
-    let summary = Summary {
-        words: 3,
-        postings: 4,
-    };
-    assert_eq!(rt;
-        to_text(alloc, &summary)?.as_str(),
-        "{words: 3, postings: 4}"
-    );
-    let read: Summary = from_text(alloc, &table, "{words: 3, postings: 4}")?;
-    assert_eq!(rt; (read.words, read.postings), (3, 4));
-    let answer: Result<Summary, LoadFault> = from_text(alloc, &table, "{words: x");
-    assert!(rt;
-        matches!(&answer, Err(LoadFault::Unfit(path)) if path.as_slice() == [8].as_slice())
-    );
     Ok(())
 }

@@ -1,22 +1,22 @@
-ghost use Rattle.std.specs.Prelude.{◌≡◌, true, List, ◌++◌, [], ◌∷◌, OnOk, OnErr, IfOk};
-ghost use Rattle.std.specs.Int.{w64, cast_unsigned};
+ghost use Rattle.std.specs.Prelude.{◌≡◌, true, []};
 ghost use Rattle.caf_types.specs.ShapeTree.{ShapeTree};
-ghost use Rattle.caf_words.specs.Datum.{Datum, fits, a_text, some_bytes};
-ghost use Rattle.caf_words.specs.Spelling.{spelling, Spells, bit as bit_of};
-ghost use Rattle.caf_words.specs.Value.{datum};
-ghost use Rattle.caf_events.specs.Event.{Event, events};
-ghost use Rattle.caf_inspect.specs.WordForm.{all_words, SavesWords};
+ghost use Rattle.caf_words.specs.Datum.{Datum, fits};
+ghost use Rattle.caf_words.specs.Spelling.{spelling, Spells};
+ghost use Rattle.caf_events.specs.Event.{events};
+ghost use Rattle.caf_inspect.specs.WordForm.{SavesWords};
 
 use caf_events::{Save, measured};
-use caf_types::{Letters, Memory, Seq, Words};
-use caf_words::{Value, spell};
+use caf_types::{Memory, Seq, Words};
+use caf_words::{
+    write_bytes, write_flag, write_object_head, write_place, write_signed, write_text, write_unit,
+    write_word,
+};
 use std::alloc::Global;
 use std::marker::Model;
 
 /// Saves a value as words, seen as the words so far.
 #[derive(Debug, Drop)]
 pub struct WordSaver {
-    alloc: Global,
     words: Vec<u64>,
 }
 
@@ -34,7 +34,6 @@ impl WordSaver {
         ensures { SavesWords result [] }
     {
         WordSaver {
-            alloc,
             words: Vec::new(alloc),
         }
     }
@@ -47,105 +46,56 @@ impl WordSaver {
     {
         Seq::of_vec(self.words)
     }
-
-    /// Adds the spelling of the value.
-    fn add_value(&mut self, value: &Value) -> Result<(), Memory>
-        ensures added { OnOk result (self.new ≡ self.old ++ spelling (datum value.now)) }
-        ensures kept { OnErr result (self.new ≡ self.old) }
-    {
-        let words = spell(self.alloc, value)?;
-        self.words.extend_from_slice(words.as_slice())?;
-        Ok(())
-    }
-
-    fn add(&mut self, word: u64) -> Result<(), Memory>
-        ensures added { OnOk result (self.new ≡ self.old ++ word ∷ []) }
-        ensures kept { OnErr result (self.new ≡ self.old) }
-    {
-        match self.words.push(word) {
-            Ok(()) => Ok(()),
-            Err(_) => Err(Memory),
-        }
-    }
-}
-
-fn text_value(alloc: Global, text: &str) -> Result<Value, Memory>
-    ensures { IfOk result (λ value. datum value ≡ a_text text.now) }
-{
-    Ok(Value::Text(Letters::of(alloc, text)?))
-}
-
-fn bytes_value(alloc: Global, bytes: &[u8]) -> Result<Value, Memory>
-    ensures { IfOk result (λ value. datum value ≡ some_bytes bytes.now) }
-{
-    let bytes = Vec::from_slice(alloc, bytes)?;
-    Ok(Value::Bytes(Seq::of_vec(bytes)))
-}
-
-/// The word of a flag.
-fn bit(flag: bool) -> u64
-    ensures { result ≡ bit_of flag }
-{
-    if flag { 1 } else { 0 }
-}
-
-/// The number's bits in two's complement.
-fn bits(number: i64) -> u64
-    ensures { result ≡ cast_unsigned w64 number }
-{
-    number.cast_unsigned()
 }
 
 impl Save for WordSaver {
     ghost told = { SavesWords };
 
     fn unit(&mut self) -> Result<(), Memory> {
-        self.add(0)?;
+        write_unit(&mut self.words)?;
         Ok(())
     }
 
     fn flag(&mut self, v: bool) -> Result<(), Memory> {
-        self.add(bit(v))?;
+        write_flag(&mut self.words, v)?;
         Ok(())
     }
 
     fn unsigned(&mut self, v: u64) -> Result<(), Memory> {
-        self.add(v)?;
+        write_word(&mut self.words, v)?;
         Ok(())
     }
 
     fn signed(&mut self, v: i64) -> Result<(), Memory> {
-        self.add(bits(v))?;
+        write_signed(&mut self.words, v)?;
         Ok(())
     }
 
     fn text(&mut self, v: &str) -> Result<(), Memory> {
         let bytes = v.as_bytes();
         let _ = measured(bytes);
-        let value = text_value(self.alloc, v)?;
-        self.add_value(&value)?;
+        write_text(&mut self.words, v)?;
         Ok(())
     }
 
     fn bytes(&mut self, v: &[u8]) -> Result<(), Memory> {
         let _ = measured(v);
-        let value = bytes_value(self.alloc, v)?;
-        self.add_value(&value)?;
+        write_bytes(&mut self.words, v)?;
         Ok(())
     }
 
     fn place(&mut self, v: u32) -> Result<(), Memory> {
-        self.add(v as u64)?;
+        write_place(&mut self.words, v)?;
         Ok(())
     }
 
     fn list(&mut self, length: u64) -> Result<(), Memory> {
-        self.add(length)?;
+        write_word(&mut self.words, length)?;
         Ok(())
     }
 
     fn object(&mut self, fields: u64) -> Result<(), Memory> {
-        self.add(fields)?;
+        write_object_head(&mut self.words, fields)?;
         Ok(())
     }
 

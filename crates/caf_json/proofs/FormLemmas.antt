@@ -7,7 +7,7 @@ use Rattle.caf_types.specs.ShapeTree.{ShapeTree, unit, flag, unsigned, signed, t
 use Rattle.caf_words.specs.Datum.{Datum, a_unit, a_flag, an_unsigned, a_signed, a_text, some_bytes, a_place, a_list, an_object, Data, no_data, more}
 use Rattle.caf_json.specs.Digits.{unhex}
 use Rattle.caf_json.specs.Form.{unsigned_in, signed_in, are_declared, HasJson, EachHasJson, PartsHaveJson}
-use Rattle.caf_json.specs.Reading.{Read, ◌>>=◌, inside, found, below_256, then_more, each_read, list_read, member_read, no_others, object_read, unjson, parts_read}
+use Rattle.caf_json.specs.Reading.{Read, ◌>>=◌, inside, found, below_places, then_more, each_read, list_read, member_read, no_others, object_read, unjson, parts_read}
 use Rattle.caf_events.proofs.OfShapeLemmas.{IsOf, PartsAre, AllAre}
 use Rattle.caf_json.proofs.DigitsLemmas.{unhex_is, unhex_back}
 
@@ -107,8 +107,8 @@ mutual
       let u = unhex_is q.0 p.0 q.2 in
       (p.0, u.0, p.2, str_is j q.0 q.1 ∙ ap string u.1)
   has_json place j d h =
-      let p = found_is a_place (option_and_then below_256 (unsigned_in j)) d h in
-      let q = then_is below_256 (unsigned_in j) p.0 p.1 in
+      let p = found_is a_place (option_and_then below_places (unsigned_in j)) d h in
+      let q = then_is below_places (unsigned_in j) p.0 p.1 in
       let s = small_is q.0 p.0 (ltb q.0 256) refl q.2 in
       (p.0, s.1, p.2, q.1 ∙ ap (λ n. Some n) s.0)
   has_json (list f) j d h =
@@ -147,7 +147,7 @@ mutual
   read_back signed d j h = ap (found a_signed) h.2 ∙ ap read_ok (sym h.1)
   read_back text d j h = rw (h.1, h.2) refl
   read_back bytes d j h = rw (h.2, h.3, unhex_back h.0 h.1) refl
-  read_back place d j h = ap (λ o. found a_place (option_and_then below_256 o)) h.3 ∙ ap (λ (b : Bool). found a_place (cond b (Some h.0) None)) (lt-ltb h.0 256 h.1) ∙ ap read_ok (sym h.2)
+  read_back place d j h = ap (λ o. found a_place (option_and_then below_places o)) h.3 ∙ ap (λ (b : Bool). found a_place (cond b (Some h.0) None)) (lt-ltb h.0 256 h.1) ∙ ap read_ok (sym h.2)
   read_back (list f) d j h =
       let e = each_read_ok (unjson f) (HasJson f) (read_back f) 0 h.0 h.1 h.2 in
       rw (h.3, h.4, e) refl

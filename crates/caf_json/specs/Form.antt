@@ -3,6 +3,7 @@ use Rattle.std.specs.Prelude.{◌≡◌, ℕ, ◌<◌, ℤ, Bool, true, false, i
 use Rattle.hex.specs.Hex.{encode_lower}
 use Rattle.serde_json.specs.Data.{Data as Json, null, boolean, string, array, object as members_in, Items, no_items, item, Members, no_members, member}
 use Rattle.serde_json.specs.Find.{get, as_number, as_u64, as_i64}
+use Rattle.caf_types.specs.Limits.{places}
 use Rattle.caf_types.specs.ShapeTree.{ShapeTree, unit, flag, unsigned, signed, text, bytes, place, list, object, Parts, no_parts, part}
 use Rattle.caf_words.specs.Spelling.{AreBytes}
 use Rattle.caf_words.specs.Datum.{Datum, a_unit, a_flag, an_unsigned, a_signed, a_text, some_bytes, a_place, a_list, an_object, Data, no_data, more}
@@ -35,7 +36,7 @@ abbrev mutual
   HasJson signed d j = (z : ℤ) × (d ≡ a_signed z) × (signed_in j ≡ Some z)
   HasJson text d j = (bs : List ℕ) × (d ≡ a_text bs) × (j ≡ string bs)
   HasJson bytes d j = (bs : List ℕ) × AreBytes bs × (d ≡ some_bytes bs) × (j ≡ string (encode_lower bs))
-  HasJson place d j = (n : ℕ) × (n < 256) × (d ≡ a_place n) × (unsigned_in j ≡ Some n)
+  HasJson place d j = (n : ℕ) × (n < places) × (d ≡ a_place n) × (unsigned_in j ≡ Some n)
   HasJson (list f) d j = (ds : Data) × (js : Items) × EachHasJson (HasJson f) ds js × (d ≡ a_list ds) × (j ≡ array js)
   HasJson (object ps) d j = (ds : Data) × (ms : Members) × PartsHaveJson ps ds j × (are_declared ps ms ≡ true) × (d ≡ an_object ds) × (j ≡ members_in ms)
 

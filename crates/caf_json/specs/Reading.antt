@@ -2,6 +2,7 @@
 use Rattle.std.specs.Prelude.{ℕ, ◌+◌, nat_lt, if◌then◌else◌, Bool, true, false, List, [], ◌∷◌, Option, Some, None, option_and_then, Result, Ok, Err}
 use Rattle.serde_json.specs.Data.{Data as Json, Items, no_items, item, Members}
 use Rattle.serde_json.specs.Find.{get, as_null, as_bool, as_str, as_array, as_object}
+use Rattle.caf_types.specs.Limits.{places}
 use Rattle.caf_types.specs.ShapeTree.{ShapeTree, unit, flag, unsigned, signed, text, bytes, place, list, object, Parts, no_parts, part}
 use Rattle.caf_words.specs.Datum.{Datum, a_unit, a_flag, an_unsigned, a_signed, a_text, some_bytes, a_place, a_list, an_object, Data, no_data, more}
 use Rattle.caf_json.specs.Digits.{unhex}
@@ -26,8 +27,8 @@ abbrev pub found : {A : Type 0} → (A → Datum) → Option A → Read Datum
 found make None = Err []
 found make (Some x) = Ok (make x)
 
-abbrev pub below_256 : ℕ → Option ℕ
-below_256 n = if nat_lt n 256 then Some n else None
+abbrev pub below_places : ℕ → Option ℕ
+below_places n = if nat_lt n places then Some n else None
 
 abbrev pub then_more : Read Datum → Read Data → Read Data
 then_more one others = one >>= λ d. others >>= λ ds. Ok (more d ds)
@@ -61,7 +62,7 @@ abbrev mutual
   unjson signed = λ j. found a_signed (signed_in j)
   unjson text = λ j. found a_text (as_str j)
   unjson bytes = λ j. found some_bytes (option_and_then unhex (as_str j))
-  unjson place = λ j. found a_place (option_and_then below_256 (unsigned_in j))
+  unjson place = λ j. found a_place (option_and_then below_places (unsigned_in j))
   unjson (list f) = λ j. list_read (each_read (unjson f) 0) (as_array j)
   unjson (object ps) = λ j. object_read (are_declared ps) (parts_read ps 0 j) (as_object j)
 

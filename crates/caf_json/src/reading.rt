@@ -5,7 +5,7 @@ ghost use Rattle.caf_words.specs.Value.{datum};
 ghost use Rattle.serde_json.specs.View.{view, items_view, members_view};
 ghost use Rattle.serde_json.specs.Find.{as_object, as_str, as_array};
 ghost use Rattle.caf_json.specs.Form as json_form;
-ghost use Rattle.caf_json.specs.Reading.{unjson, each_read, parts_read, object_read, list_read, found, below_256, inside as inside_part};
+ghost use Rattle.caf_json.specs.Reading.{unjson, each_read, parts_read, object_read, list_read, found, below_places, inside as inside_part};
 ghost use Rattle.std.specs.Option.{option_and_then};
 ghost use Rattle.caf_json.specs.Digits.{unhex};
 ghost use Rattle.caf_events.specs.LoadAnswer.{Refused};
@@ -65,7 +65,7 @@ fn octets_of(alloc: Global, json: &Json) -> Result<Octets, LoadFault>
 }
 
 fn place_of(alloc: Global, json: &Json) -> Result<u32, LoadFault>
-    ensures { Gives (λ place. a_place place) result (found a_place (option_and_then below_256 (json_form.unsigned_in (view json.now)))) }
+    ensures { Gives (λ place. a_place place) result (found a_place (option_and_then below_places (json_form.unsigned_in (view json.now)))) }
 {
     match json.as_u64() {
         None => Err(unfit(alloc)),

@@ -1,5 +1,5 @@
 use Rattle.std.proofs.Common.{[]}
-use Rattle.caf_inspect.proofs.whole.to_json.Goals as goal
+use Rattle.caf_inspect.proofs.forms.to_json.Goals as goal
 
 pub finish-requires : goal.finish-requires
 finish-requires g c =

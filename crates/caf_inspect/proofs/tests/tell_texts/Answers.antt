@@ -3,6 +3,6 @@ use Rattle.caf_inspect.proofs.tests.tell_texts.Goals as goal
 
 pub returns : goal.returns
 returns g c =
-    tells_cons c.in_ok-field.ensures (tells_cons c.in_ok-text.ensures
-    (tells_cons c.in_ok-field-2.ensures (tells_cons c.in_ok-bytes.ensures
-    (tells_cons c.in_ok-field-3.ensures c.in_ok-place.ensures))))
+    tells_cons c.in_ok-field.ensures.added (tells_cons c.in_ok-text.ensures.added
+    (tells_cons c.in_ok-field-2.ensures.added (tells_cons c.in_ok-bytes.ensures.added
+    (tells_cons c.in_ok-field-3.ensures.added c.in_ok-place.ensures.added))))

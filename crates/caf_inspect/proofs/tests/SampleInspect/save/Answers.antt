@@ -7,7 +7,6 @@ use Rattle.caf_inspect.proofs.tests.SampleInspect.save.Goals as goal
 pub returns : goal.returns
 returns g c =
     let it = c.args.self.now in
-    let named = subst (λ v. Tells g.S.Save.told c.tell_numbers.new.saver c.tell_texts.new.saver (field (codes "name") ∷ text v ∷ field (codes "mark") ∷ bytes c.as_slice.result.now ∷ field (codes "home") ∷ place c.home.result ∷ [])) c.as_str.ensures c.in_ok-tell_texts.ensures in
-    let marked = subst (λ v. Tells g.S.Save.told c.tell_numbers.new.saver c.tell_texts.new.saver (field (codes "name") ∷ text it.name ∷ field (codes "mark") ∷ bytes v ∷ field (codes "home") ∷ place c.home.result ∷ [])) c.as_slice.ensures named in
-    let placed = subst (λ v. Tells g.S.Save.told c.tell_numbers.new.saver c.tell_texts.new.saver (field (codes "name") ∷ text it.name ∷ field (codes "mark") ∷ bytes it.mark ∷ field (codes "home") ∷ place v ∷ [])) c.home.ensures marked in
-    tells_append c.in_ok-tell_numbers.ensures (tells_append placed (tells_cons c.in_ok-field.ensures (tells_append c.in_ok-save_list.ensures tells_none)))
+    let named = subst (λ v. Tells g.S.Save.told c.tell_numbers.new.saver c.tell_texts.new.saver (field (codes "name") ∷ text v ∷ field (codes "mark") ∷ bytes c.as_slice.result.now ∷ field (codes "home") ∷ place it.home ∷ [])) c.as_str.ensures c.in_ok-tell_texts.ensures in
+    let marked = subst (λ v. Tells g.S.Save.told c.tell_numbers.new.saver c.tell_texts.new.saver (field (codes "name") ∷ text it.name ∷ field (codes "mark") ∷ bytes v ∷ field (codes "home") ∷ place it.home ∷ [])) c.as_slice.ensures named in
+    tells_append c.in_ok-tell_numbers.ensures (tells_append marked (tells_cons c.in_ok-field.ensures.added (tells_append c.in_ok-save_list.ensures tells_none)))

@@ -1,9 +1,9 @@
 use Rattle.std.proofs.Common.{◌∷◌, ◌-◌, ◌∙◌, sym, ap, string_bytes, arith}
-use Rattle.caf_inspect.specs.TextSaver.{frame_of, frames_of}
+use Rattle.caf_inspect.specs.TextBuilder.{frame_of, frames_of}
 use Rattle.caf_inspect.specs.TextStack.{give, in_list, in_object, state}
-use Rattle.caf_inspect.proofs.TextFillingLemmas.{given_whole, given_open}
-use Rattle.caf_inspect.proofs.TextTellingLemmas.{into_last}
-use Rattle.caf_inspect.proofs.text_saver.TextSaver.close.Goals as goal
+use Rattle.caf_inspect.proofs.TextBuilderLemmas.{given_whole, given_open}
+use Rattle.caf_inspect.proofs.TextBuilderLemmas.{into_last}
+use Rattle.caf_inspect.proofs.text_builder.TextBuilder.close.Goals as goal
 
 pub returns-then-missing-gt0 : goal.returns-then-missing-gt0
 returns-then-missing-gt0 c =
