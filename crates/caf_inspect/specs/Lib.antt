@@ -1,4 +1,5 @@
 pub mod WordForm
+pub mod WordSaver
 pub mod Loader
 pub mod LoadAnswer
 pub mod TextStack

@@ -3,7 +3,7 @@ ghost use Rattle.caf_types.specs.ShapeTree.{ShapeTree};
 ghost use Rattle.caf_words.specs.Datum.{Datum, fits};
 ghost use Rattle.caf_words.specs.Spelling.{spelling, Spells};
 ghost use Rattle.caf_events.specs.Event.{events};
-ghost use Rattle.caf_inspect.specs.WordForm.{SavesWords};
+ghost use Rattle.caf_inspect.specs.WordSaver.{SavesWords};
 
 use caf_events::{Save, measured};
 use caf_types::{Memory, Seq, Words};
@@ -12,20 +12,11 @@ use caf_words::{
     write_word,
 };
 use std::alloc::Global;
-use std::marker::Model;
 
-/// Saves a value as words, seen as the words so far.
+/// Saves a value as words.
 #[derive(Debug, Drop)]
 pub struct WordSaver {
     words: Vec<u64>,
-}
-
-impl Model for WordSaver {
-    ghost use Rattle.std.specs.Prelude.{List, ℕ};
-
-    ghost Value = { List ℕ };
-
-    ghost view = { λ saver. saver.words.items };
 }
 
 impl WordSaver {

@@ -5,4 +5,4 @@ use Rattle.caf_inspect.proofs.WordTellingLemmas.{word_told}
 use Rattle.caf_inspect.proofs.word_saver.WordSaverSave.signed.Goals as goal
 
 pub returns-clause-added : goal.returns-clause-added
-returns-clause-added c = word_told (c.in_ok-write_signed.ensures.spelled ∙ ap (λ n. c.args.self.now ++ n ∷ []) (ap (cast_unsigned w64) (to_z-of_z w64 c.args.v c.ranges.v))) c.ranges.v
+returns-clause-added c = word_told (c.in_ok-write_signed.ensures.spelled ∙ ap (λ n. c.args.self.now.words.items ++ n ∷ []) (ap (cast_unsigned w64) (to_z-of_z w64 c.args.v c.ranges.v))) c.ranges.v
