@@ -1,6 +1,6 @@
 ghost use Rattle.std.specs.Prelude.{◌≡◌, ◌≢◌, ℕ, ◌≤◌, ◌↔◌, List, true, false, IfSome, IfOk, IfErr, OnOk};
 ghost use Rattle.caf_io.specs.Faults.{Rose};
-ghost use Rattle.caf_io.specs.Files.{told_file};
+ghost use Rattle.caf_io.specs.Files.{told_file, IsThere};
 ghost use Rattle.caf_cli.specs.Command.{AsksFor};
 ghost use Rattle.caf_cli.specs.End.{status_of};
 ghost use Rattle.caf_cli.specs.Outcome.{text_of_file, WritesIndex, WritesPrefix, IsOver, IsWithin, has_written};
@@ -29,7 +29,8 @@ pub struct Outcome {
 /// `out`, under the file's name as given.
 ///
 /// The file is read to its end before anything is written. Where the words, the file or memory
-/// refuse, nothing is written.
+/// refuse, nothing is written. Words that are not understood read nothing. Where all went well, the
+/// file was there, and no read and no write failed.
 pub fn run_main<F: Files, S: Sink>(
     alloc: Global,
     words: &WordList,
@@ -46,6 +47,9 @@ pub fn run_main<F: Files, S: Sink>(
     ensures nothing { has_written result.end ≡ false → out.new ≡ out.old }
 
     // when each end comes
+    ensures there { (name : List ℕ) → AsksFor words.now name → result.end ≡ End.Done → IsThere (F.told files.old) name }
+    ensures no_read_failed { result.end ≡ End.Done → (name : List ℕ) → F.faults files.new name ≡ F.faults files.old name }
+    ensures no_write_failed { result.end ≡ End.Done → S.faults out.new ≡ S.faults out.old }
     ensures usage { (result.end ≡ End.Usage) ↔ ((name : List ℕ) → ¬ AsksFor words.now name) }
     ensures read { (name : List ℕ) → result.end ≡ End.Read name →
         AsksFor words.now name × Rose (F.faults files.old name) (F.faults files.new name) }
@@ -56,6 +60,7 @@ pub fn run_main<F: Files, S: Sink>(
     ensures write { result.end ≡ End.Write → Rose (S.faults out.old) (S.faults out.new) }
 
     // what stays
+    ensures unread { result.end ≡ End.Usage → files.new ≡ files.old }
     ensures same_content { F.told files.new ≡ F.told files.old }
     ensures none_falls { (other : List ℕ) → F.faults files.old other ≤ F.faults files.new other }
     ensures never_falls { S.faults out.old ≤ S.faults out.new }
@@ -71,7 +76,11 @@ fn end_of<F: Files, S: Sink>(alloc: Global, words: &WordList, files: &mut F, out
     ensures part { (name : List ℕ) → AsksFor words.now name → result ≡ End.Write →
         WritesPrefix (F.told files.old) name (S.written out.old) (S.written out.new) }
     ensures nothing { has_written result ≡ false → out.new ≡ out.old }
+    ensures there { (name : List ℕ) → AsksFor words.now name → result ≡ End.Done → IsThere (F.told files.old) name }
+    ensures no_read_failed { result ≡ End.Done → (name : List ℕ) → F.faults files.new name ≡ F.faults files.old name }
+    ensures no_write_failed { result ≡ End.Done → S.faults out.new ≡ S.faults out.old }
     ensures usage { (result ≡ End.Usage) ↔ ((name : List ℕ) → ¬ AsksFor words.now name) }
+    ensures unread { result ≡ End.Usage → files.new ≡ files.old }
     ensures read { (name : List ℕ) → result ≡ End.Read name →
         AsksFor words.now name × Rose (F.faults files.old name) (F.faults files.new name) }
     ensures limit { (kind : LimitKind) (file line : ℕ) → result ≡ End.Limit kind file line →
@@ -94,6 +103,9 @@ fn index_file<F: Files, S: Sink>(alloc: Global, files: &mut F, name: &str, out: 
     ensures done { result ≡ End.Done → WritesIndex (F.told files.old) name.now (S.written out.old) (S.written out.new) }
     ensures part { result ≡ End.Write → WritesPrefix (F.told files.old) name.now (S.written out.old) (S.written out.new) }
     ensures nothing { has_written result ≡ false → out.new ≡ out.old }
+    ensures there { result ≡ End.Done → IsThere (F.told files.old) name.now }
+    ensures no_read_failed { result ≡ End.Done → (other : List ℕ) → F.faults files.new other ≡ F.faults files.old other }
+    ensures no_write_failed { result ≡ End.Done → S.faults out.new ≡ S.faults out.old }
     ensures not_usage { result ≢ End.Usage }
     ensures read { (failed : List ℕ) → result ≡ End.Read failed →
         (failed ≡ name.now) × Rose (F.faults files.old name.now) (F.faults files.new name.now) }
@@ -118,6 +130,8 @@ fn index_file<F: Files, S: Sink>(alloc: Global, files: &mut F, name: &str, out: 
 fn text_of_name<F: Files>(alloc: Global, files: &mut F, name: &str) -> Result<Seq<u8>, End>
     ensures text { IfOk result (λ text. IfSome (told_file (F.told files.old) name.now) (λ file. text ≡ text_of_file name.now file)) }
     ensures within { OnOk result (IsWithin (F.told files.old) name.now) }
+    ensures there { OnOk result (IsThere (F.told files.old) name.now) }
+    ensures no_fault { OnOk result ((other : List ℕ) → F.faults files.new other ≡ F.faults files.old other) }
     ensures refused { IfErr result (λ end. (has_written end ≡ false) × (end ≢ End.Usage)) }
     ensures read { (failed : List ℕ) → result ≡ Err (End.Read failed) →
         (failed ≡ name.now) × Rose (F.faults files.old name.now) (F.faults files.new name.now) }
@@ -134,6 +148,8 @@ fn text_of_name<F: Files>(alloc: Global, files: &mut F, name: &str) -> Result<Se
 fn read_corpus<F: Files>(alloc: Global, files: &mut F, name: &str) -> Result<Seq<u8>, End>
     ensures bytes { IfOk result (λ bytes. IfSome (told_file (F.told files.old) name.now) (λ file. bytes ≡ file)) }
     ensures within { OnOk result (IsWithin (F.told files.old) name.now) }
+    ensures there { OnOk result (IsThere (F.told files.old) name.now) }
+    ensures no_fault { OnOk result ((other : List ℕ) → F.faults files.new other ≡ F.faults files.old other) }
     ensures refused { IfErr result (λ end. (has_written end ≡ false) × (end ≢ End.Usage)) }
     ensures read { (failed : List ℕ) → result ≡ Err (End.Read failed) →
         (failed ≡ name.now) × Rose (F.faults files.old name.now) (F.faults files.new name.now) }

@@ -131,6 +131,11 @@ fn a_failed_read_or_write_is_told(rt: HostRuntime) -> Result<(), Fail> {
     assert_eq!(rt; unwritten.status, 5);
     assert!(rt; matches!(unwritten.end, End::Write));
     assert_eq!(rt; out.written(), b"cat\n ".as_slice());
+
+    let mut closed = MemorySink::new(alloc);
+    closed.fail_at(1, 0)?;
+    let nothing = run_over(alloc, "E.txt", b"", &mut closed)?;
+    assert_eq!(rt; nothing.status, 5);
     Ok(())
 }
 

@@ -1,5 +1,5 @@
 -- A sum over the values of a finite map, and what a new value does to it.
-use Rattle.std.proofs.Common.{◌≡◌, ℕ, ◌+◌, Bool, true, false, cond, not, List, [], ◌∷◌, length, Option, Some, None, refl, sym, ap, ◌∙◌, arith}
+use Rattle.std.proofs.Common.{◌≡◌, ℕ, ◌+◌, ◌-◌, ◌^◌, min, Bool, true, false, cond, not, List, [], ◌∷◌, length, Option, Some, None, refl, sym, ap, ◌∙◌, arith}
 use Rattle.std.specs.Prelude.{T, ◌&&◌, sum_by, unwrap_or}
 use Rattle.std.specs.Ordering.{nat_cmp, is_eq, is_lt}
 use Rattle.std.specs.declared.cmp.Ordering.{Ordering}
@@ -107,19 +107,20 @@ entry_count-with_entry index word file line =
     counted true after before some files more t h n = omega arith
     counted false after before some files more t h n = omega arith
 
--- what a counter of the entries becomes
-pub count-new : (index new : Entries) (word : List ℕ) (file line count : ℕ) → count ≡ entry_count index → new ≡ with_entry index word file line → true ≡ not (has_entry index word file line) → count + 1 ≡ entry_count new
-count-new index new word file line count is added fresh =
+-- what a counter of the entries becomes, which stops at the greatest number
+pub count-new : (index new : Entries) (word : List ℕ) (file line count next : ℕ) → count ≡ min (entry_count index) (2 ^ 64 - 1) → new ≡ with_entry index word file line → true ≡ not (has_entry index word file line)
+    → next ≡ min (count + 1) (2 ^ 64 - 1) → next ≡ min (entry_count new) (2 ^ 64 - 1)
+count-new index new word file line count next is added fresh one_more =
     let total : entry_count (with_entry index word file line) + cond (has_entry index word file line) 1 0 ≡ entry_count index + 1 = entry_count-with_entry index word file line in
     let none : cond (has_entry index word file line) 1 0 ≡ 0 = zero_from (has_entry index word file line) fresh in
     let same : entry_count new ≡ entry_count (with_entry index word file line) = ap entry_count added in
-    omega (arith, total, none, same, is)
+    omega (arith, total, none, same, is, one_more)
   where
     zero_from : (b : Bool) → true ≡ not b → ◌≡◌ {A = ℕ} (cond b 1 0) 0
     zero_from true e = cc
     zero_from false e = refl
 
-pub count-old : (index new : Entries) (word : List ℕ) (file line count : ℕ) → count ≡ entry_count index → new ≡ with_entry index word file line → false ≡ not (has_entry index word file line) → count ≡ entry_count new
+pub count-old : (index new : Entries) (word : List ℕ) (file line count : ℕ) → count ≡ min (entry_count index) (2 ^ 64 - 1) → new ≡ with_entry index word file line → false ≡ not (has_entry index word file line) → count ≡ min (entry_count new) (2 ^ 64 - 1)
 count-old index new word file line count is added known =
     let total : entry_count (with_entry index word file line) + cond (has_entry index word file line) 1 0 ≡ entry_count index + 1 = entry_count-with_entry index word file line in
     let one : cond (has_entry index word file line) 1 0 ≡ 1 = one_from (has_entry index word file line) known in

@@ -1,4 +1,4 @@
-ghost use Rattle.std.specs.Prelude.{◌≡◌, IfOk, OnErr, OnOk, not, string_bytes, map as each};
+ghost use Rattle.std.specs.Prelude.{◌≡◌, ◌-◌, ◌^◌, min, IfOk, OnErr, OnOk, not, string_bytes, map as each};
 ghost use Rattle.std.specs.String.{string_eq};
 ghost use Rattle.std.specs.HashMap.{keys, IsUnique};
 ghost use Rattle.std.specs.Option.{option_copied};
@@ -21,7 +21,7 @@ pub struct Index {
 }
 
 impl Model for Index {
-    ghost use Rattle.std.specs.Prelude.{◌≡◌};
+    ghost use Rattle.std.specs.Prelude.{◌≡◌, ◌-◌, ◌^◌, min};
     ghost use Rattle.std.specs.FinMap as map;
     ghost use base.Stored.{coded_unit};
     ghost use Rattle.std.specs.Coded.{coded_ℕ, coded_list};
@@ -33,7 +33,7 @@ impl Model for Index {
 
     ghost view = { λ index. index_of_rows index.words.entries };
 
-    ghost invariant = { λ index. index.entries ≡ entry_count (index_of_rows index.words.entries) };
+    ghost invariant = { λ index. index.entries ≡ min (entry_count (index_of_rows index.words.entries)) (2 ^ 64 - 1) };
 }
 
 impl Index {
@@ -50,18 +50,13 @@ impl Index {
 
     /// Puts in that the word stands in that line of that file. An entry that is there already
     /// changes nothing. After want of memory the index is as before.
-    ///
-    /// It answers want of memory too where 2^64 - 1 entries are counted, which no memory holds.
     pub fn add(&mut self, file: u64, word: &str, line: u64) -> Result<(), Memory>
         ensures added { OnOk result (self.new ≡ with_entry self.old word.now file line) }
         ensures kept { OnErr result (self.new ≡ self.old) }
     {
-        if self.entries == u64::MAX {
-            return Err(Memory);
-        }
         let is_new = add_to(&mut self.words, self.alloc, word, file, line)?;
         if is_new {
-            self.entries += 1;
+            self.entries = self.entries.saturating_add(1);
         }
         Ok(())
     }
@@ -73,9 +68,9 @@ impl Index {
         self.words.len() as u64
     }
 
-    /// The number of (word, file, line) entries.
+    /// The number of (word, file, line) entries; it stops at 2^64 - 1.
     pub fn entries(&self) -> u64
-        ensures { result ≡ entry_count self.now }
+        ensures { result ≡ min (entry_count self.now) (2 ^ 64 - 1) }
     {
         self.entries
     }

@@ -5,8 +5,8 @@ use Rattle.caf_words.specs.Datum.{Datum, Data, no_data, more}
 use Rattle.caf_text.specs.Answer.{IsNoForm}
 use Rattle.caf_text.specs.TextForm as texts
 use Rattle.caf_text.specs.TextForm.{IsValue, AreValues, HasText}
-use Rattle.caf_text.specs.declared.stop.TextFault.{TextFault}
-use Rattle.caf_text.specs.declared.stop.TextFault.TheVariants as found
+use Rattle.caf_text.specs.declared.text_fault.TextFault.{TextFault}
+use Rattle.caf_text.specs.declared.text_fault.TextFault.TheVariants as found
 use Rattle.caf_events.specs.LoadAnswer.{Refused}
 use Rattle.caf_inspect.specs.LoadAnswer.{TextFailsAt, AtLength}
 use Rattle.caf_events.proofs.OfShapeLemmas.{IsOf, PartsAre, AllAre}

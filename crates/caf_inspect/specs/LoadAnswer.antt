@@ -6,8 +6,8 @@ use Rattle.caf_words.specs.Several.{whole_reading}
 use Rattle.caf_words.specs.declared.stop.SpellFault.{SpellFault}
 use Rattle.caf_words.specs.declared.stop.SpellFault.TheVariants as spell
 use Rattle.caf_text.specs.Front.{IsLongestFront}
-use Rattle.caf_text.specs.declared.stop.TextFault.{TextFault}
-use Rattle.caf_text.specs.declared.stop.TextFault.TheVariants as text
+use Rattle.caf_text.specs.declared.text_fault.TextFault.{TextFault}
+use Rattle.caf_text.specs.declared.text_fault.TextFault.TheVariants as text
 use Rattle.caf_events.specs.declared.fault.LoadFault.{LoadFault}
 use Rattle.caf_events.specs.declared.fault.LoadFault.TheVariants as faults
 

@@ -1,5 +1,6 @@
 -- The content of files in memory, read as a finite map.
-use Rattle.std.proofs.Common.{◌≡◌, ℕ, Bool, true, false, cond, List, [], ◌∷◌, map, Some, Option, ap, sym, ◌∙◌, string_bytes, refl}
+use Rattle.std.proofs.Common.{◌≡◌, ℕ, Bool, true, false, cond, List, [], ◌∷◌, map, Some, None, Option, ap, sym, ◌∙◌, string_bytes, refl}
+use Rattle.std.specs.Prelude.{Result, Ok, Err, OnOk}
 use Rattle.std.specs.declared.string.String.{String}
 use Rattle.std.specs.Ordering.{nat_cmp, is_eq, eq_by_cmp}
 use Rattle.std.specs.Cmp.{eq_by_cmp_equiv}
@@ -44,6 +45,10 @@ module _ {Y X V : Type 0} (value : X → V) where
       → finite.get (finite.from_entries {R = slice_cmp nat_cmp} (map by_name entries)) name ≡ Some (value file)
   get-found name entries file found = get-by_name name entries ∙ ap (option_map value) found
 
+  pub get-absent : (name : List ℕ) (entries : List (String Y × X)) → lookup (is_named name) entries ≡ None
+      → finite.get (finite.from_entries {R = slice_cmp nat_cmp} (map by_name entries)) name ≡ None
+  get-absent name entries absent = get-by_name name entries ∙ ap (option_map value) absent
+
   -- a file that changes and keeps its bytes leaves the content
   pub by_name-set_value : (test : String Y → Bool) (entries : List (String Y × X)) (old new : X)
       → lookup test entries ≡ Some old → value new ≡ value old → map by_name (set_value test entries new) ≡ map by_name entries
@@ -67,3 +72,8 @@ module _ {Y X V : Type 0} (value : X → V) where
       (sym (is_eq-slice_cmp name other) ∙ (eq_by_cmp_equiv nat_list_cmp_total).symm name other)
       ∙ ap (cond (eq_by_cmp (slice_cmp nat_cmp) other name) (Some (value file))) (sym (get-by_name other before.entries))
       ∙ sym (finite.get-insert nat_list_cmp_total (finite.from_entries (map by_name before.entries)) name (value file) other))
+
+-- what an answer gives, where it comes
+pub on_ok : {T E : Type 0} {P Q : Type 0} (r : Result T E) → OnOk r P → (P → Q) → OnOk r Q
+on_ok (Ok x) p f = f p
+on_ok (Err e) p f = p

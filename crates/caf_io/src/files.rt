@@ -6,10 +6,10 @@ use crate::Failed;
 
 /// Files that can be read by name.
 pub trait Files {
-    // the content of all files, where it is told; no call changes it
+    /// The content of all files, where it is told; no call changes it.
     ghost told: { Self → Option Content };
 
-    // how many reads of the file of this name failed; it stops at 2^64 - 1 and never falls
+    /// How many reads of the file of this name failed; it stops at 2^64 - 1 and never falls.
     ghost faults: { Self → List ℕ → ℕ };
 
     /// Reads bytes of the file `name` from position `from` on into the front of `buffer`, and
@@ -17,7 +17,8 @@ pub trait Files {
     /// or before `from`.
     ///
     /// [`Failed`] comes only where the count of faults of this name rose in this call, as at a
-    /// name that is absent. Nothing is said of the buffer then.
+    /// name that is absent. Nothing is said of the buffer then. A read that is answered raises no
+    /// count.
     fn read(&mut self, name: &str, from: u64, buffer: &mut [u8]) -> Result<u64, Failed>
         requires { 0 < length buffer.old }
         ensures within { IfOk result (λ count. count ≤ length buffer.new) }
@@ -27,6 +28,7 @@ pub trait Files {
             (λ file. (count ≡ 0) ↔ (length file ≤ from))) }
         ensures there { OnOk result (IsThere (told self.old) name.now) }
         ensures cause { OnErr result (Rose (faults self.old name.now) (faults self.new name.now)) }
+        ensures no_fault { OnOk result ((other : List ℕ) → faults self.new other ≡ faults self.old other) }
         ensures same_content { told self.new ≡ told self.old }
         ensures none_falls { (other : List ℕ) → faults self.old other ≤ faults self.new other };
 }

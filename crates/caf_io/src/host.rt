@@ -1,4 +1,4 @@
-ghost use Rattle.std.specs.Prelude.{◌≡◌, ℕ, ◌≤◌, List, length, None, IfOk};
+ghost use Rattle.std.specs.Prelude.{◌≡◌, ℕ, ◌+◌, ◌-◌, ◌^◌, ◌≤◌, min, List, length, None, IfOk, IfSome, OnOk, string_bytes};
 
 use crate::{Failed, Files, Sink};
 use std::alloc::Global;
@@ -13,7 +13,7 @@ use std::{fs, io, rt};
 pub struct HostFiles<R: rt::Files> {
     rt: R,
     alloc: Global,
-    open: Option<OpenFile<R::File>>,
+    current: Option<OpenFile<R::File>>,
     faults: u64,
 }
 
@@ -32,7 +32,7 @@ impl<R: rt::Files + Drop> HostFiles<R> {
         HostFiles {
             rt,
             alloc,
-            open: None,
+            current: None,
             faults: 0,
         }
     }
@@ -46,9 +46,11 @@ impl<R: rt::Files + Drop> HostFiles<R> {
 
     // The file of this name at this position, opened unless it is open there.
     fn reach(&mut self, name: &str, from: u64) -> io::Result<OpenFile<R::File>>
-        ensures { self.new.faults ≡ self.old.faults }
+        ensures named { IfOk result (λ file. string_bytes file.name ≡ name.now) }
+        ensures there { IfOk result (λ file. file.next ≡ from) }
+        ensures same_faults { self.new.faults ≡ self.old.faults }
     {
-        if let Some(open) = self.open.take() {
+        if let Some(open) = self.current.take() {
             if open.next == from && open.name.as_str() == name {
                 return Ok(open);
             }
@@ -67,12 +69,14 @@ impl<R: rt::Files + Drop> HostFiles<R> {
 
     fn read_open(&mut self, name: &str, from: u64, buffer: &mut [u8]) -> io::Result<usize>
         ensures within { IfOk result (λ count. count ≤ length buffer.new) }
+        ensures named { OnOk result (IfSome self.new.current (λ file. string_bytes file.name ≡ name.now)) }
+        ensures stands { IfOk result (λ count. IfSome self.new.current (λ file. file.next ≡ min (from + count) (2 ^ 64 - 1))) }
         ensures same_faults { self.new.faults ≡ self.old.faults }
     {
         let mut open = self.reach(name, from)?;
         let count = read_retrying(&mut open.file, buffer)?;
         open.next = from.saturating_add(count as u64);
-        self.open = Some(open);
+        self.current = Some(open);
         Ok(count)
     }
 }

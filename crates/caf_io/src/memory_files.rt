@@ -1,4 +1,4 @@
-ghost use Rattle.std.specs.Prelude.{◌≡◌, ℕ, ◌<◌, ◌≤◌, ◌↔◌, List, take, length, Some, false, IsTrue, IsSome, IsErr, IfSome, OnOk, OnErr, IfOk};
+ghost use Rattle.std.specs.Prelude.{◌≡◌, ◌≢◌, ◌==◌, ℕ, ◌<◌, ◌≤◌, ◌↔◌, List, take, length, Some, true, false, IsTrue, IsSome, IsErr, IfSome, OnOk, OnErr, IfOk, if◌then◌else◌};
 ghost use Rattle.std.specs.FinMap as finite;
 ghost use Rattle.caf_io.specs.Faults.{next_count, Rose};
 ghost use Rattle.caf_io.specs.Files.{AreNext};
@@ -43,10 +43,15 @@ impl MemoryFiles {
     }
 
     /// The file `name` has these bytes from now on, and a new count. After want of memory nothing
-    /// has changed.
+    /// has changed. Other counts, the number of calls and the plan stay in any case.
     pub fn add(&mut self, alloc: Global, name: &str, bytes: &[u8]) -> Result<(), AllocError>
         ensures added { OnOk result (content self.new ≡ finite.insert (content self.old) name.now bytes.now) }
+        ensures new_count { OnOk result (fault_count self.new name.now ≡ 0) }
         ensures refused { OnErr result (content self.new ≡ content self.old) }
+        ensures kept { OnErr result (fault_count self.new name.now ≡ fault_count self.old name.now) }
+        ensures others { (other : List ℕ) → other ≢ name.now → fault_count self.new other ≡ fault_count self.old other }
+        ensures same_calls { call_count self.new ≡ call_count self.old }
+        ensures same_plan { (call : ℕ) → fails_at self.new call ≡ fails_at self.old call }
     {
         let name = String::from_str(alloc, name)?;
         let bytes = Vec::from_slice(alloc, bytes)?;
@@ -54,10 +59,14 @@ impl MemoryFiles {
         Ok(())
     }
 
-    /// The `call`-th call of `read`, counted from 1, is to fail.
+    /// The `call`-th call of `read`, counted from 1, is to fail. After want of memory the plan is as
+    /// before; content, counts and the number of calls stay in any case.
     pub fn fail_at(&mut self, call: u64) -> Result<(), AllocError>
-        ensures planned { OnOk result (IsTrue (fails_at self.new call)) }
+        ensures planned { OnOk result ((other : ℕ) → fails_at self.new other ≡ (if other == call then true else fails_at self.old other)) }
+        ensures refused { OnErr result ((other : ℕ) → fails_at self.new other ≡ fails_at self.old other) }
         ensures same_content { content self.new ≡ content self.old }
+        ensures same_counts { (name : List ℕ) → fault_count self.new name ≡ fault_count self.old name }
+        ensures same_calls { call_count self.new ≡ call_count self.old }
     {
         self.failing.insert(call)?;
         Ok(())
@@ -85,7 +94,7 @@ impl MemoryFile {
         ensures within { IfOk result (λ count. count ≤ length buffer.new) }
         ensures bytes { IfOk result (λ count. AreNext (bytes_in self.old) from (take count buffer.new)) }
         ensures end { IfOk result (λ count. (count ≡ 0) ↔ (length (bytes_in self.old) ≤ from)) }
-        ensures obeys { IsTrue fails → IsErr result }
+        ensures obeys { IsErr result ↔ IsTrue fails }
         ensures no_fault { OnOk result (self.new.faults ≡ self.old.faults) }
         ensures fault { OnErr result (self.new.faults ≡ next_count self.old.faults) }
         ensures never_falls { self.old.faults ≤ self.new.faults }
@@ -126,14 +135,20 @@ impl Files for MemoryFiles {
             (λ file. (count ≡ 0) ↔ (length file ≤ from))) }
         ensures there { OnOk result (IsSome (finite.get (content self.old) name.now)) }
         ensures cause { OnErr result (Rose (fault_count self.old name.now) (fault_count self.new name.now)) }
+        ensures no_fault { OnOk result ((other : List ℕ) → fault_count self.new other ≡ fault_count self.old other) }
         ensures same_content { content self.new ≡ content self.old }
         ensures none_falls { (other : List ℕ) → fault_count self.old other ≤ fault_count self.new other }
 
-        // It raises no other count than that of this name, and obeys its plan.
+        // It raises the count of this name by exactly one, and no other. A file that is there fails
+        // exactly where that was planned. The plan stays.
+        ensures one { OnErr result (fault_count self.new name.now ≡ next_count (fault_count self.old name.now)) }
         ensures others { (other : List ℕ) → ¬ SharesCount self.old name.now other
             → fault_count self.new other ≡ fault_count self.old other }
         ensures obeys { IsTrue (fails_at self.old (next_count (call_count self.old))) → IsErr result }
+        ensures planned { IsSome (finite.get (content self.old) name.now) → IsErr result
+            → IsTrue (fails_at self.old (next_count (call_count self.old))) }
         ensures counts { call_count self.new ≡ next_count (call_count self.old) }
+        ensures same_plan { (call : ℕ) → fails_at self.new call ≡ fails_at self.old call }
     {
         self.calls = self.calls.saturating_add(1);
         let fails = self.failing.contains(&self.calls);

@@ -1,4 +1,4 @@
-ghost use Rattle.std.specs.Prelude.{◌≡◌, ℕ, ◌+◌, ◌≤◌, [], ◌++◌, take, min, length, Some, None, IsSome, IsErr, OnOk, OnErr, if◌then◌else◌, ◌==◌};
+ghost use Rattle.std.specs.Prelude.{◌≡◌, ℕ, ◌+◌, ◌≤◌, [], ◌++◌, take, min, length, Some, None, IsSome, IsNone, IfSome, IsOk, IsErr, ◌⊎◌, OnOk, OnErr, if◌then◌else◌, ◌==◌};
 ghost use Rattle.caf_io.specs.Faults.{next_count, Rose};
 ghost use Rattle.caf_io.specs.Sink.{added, AddsPrefix};
 ghost use Rattle.caf_io.specs.MemorySink.{bytes_in, fault_count, call_count, kept_at};
@@ -69,16 +69,20 @@ impl MemorySink {
         self.calls
     }
 
-    // Adds a piece, or counts a fault where no memory is found for it.
+    // Adds a piece, or counts a fault where no memory is found for it. Nothing needs none.
     fn add(&mut self, piece: &[u8]) -> Result<(), Failed>
         ensures whole { OnOk result (bytes_in self.new ≡ bytes_in self.old ++ piece.now) }
         ensures no_fault { OnOk result (fault_count self.new ≡ fault_count self.old) }
+        ensures nothing { piece.now ≡ [] → IsOk result }
         ensures none { OnErr result (bytes_in self.new ≡ bytes_in self.old) }
         ensures fault { OnErr result (fault_count self.new ≡ next_count (fault_count self.old)) }
         ensures never_falls { fault_count self.old ≤ fault_count self.new }
         ensures same_calls { call_count self.new ≡ call_count self.old }
         ensures same_plan { (call : ℕ) → kept_at self.new call ≡ kept_at self.old call }
     {
+        if piece.is_empty() {
+            return Ok(());
+        }
         match self.bytes.extend_from_slice(piece) {
             Ok(()) => Ok(()),
             Err(_) => self.fail(),
@@ -108,9 +112,16 @@ impl Sink for MemorySink {
         ensures whole { OnOk result (Some (bytes_in self.new) ≡ added (Some (bytes_in self.old)) piece.now) }
         ensures part { OnErr result (AddsPrefix (Some (bytes_in self.old)) (Some (bytes_in self.new)) piece.now) }
         ensures cause { OnErr result (Rose (fault_count self.old) (fault_count self.new)) }
+        ensures no_fault { OnOk result (fault_count self.new ≡ fault_count self.old) }
         ensures never_falls { fault_count self.old ≤ fault_count self.new }
 
-        // It obeys its plan, and counts.
+        // It obeys its plan, adds exactly what was planned (nothing, where that wants memory), and
+        // counts. Nothing is written without a fault unless one was planned.
+        ensures planned { IfSome (kept_at self.old (next_count (call_count self.old)))
+            (λ kept. (bytes_in self.new ≡ bytes_in self.old ++ take kept piece.now) ⊎ (bytes_in self.new ≡ bytes_in self.old)) }
+        ensures unplanned { IsNone (kept_at self.old (next_count (call_count self.old))) → OnErr result (bytes_in self.new ≡ bytes_in self.old) }
+        ensures nothing { IsNone (kept_at self.old (next_count (call_count self.old))) → piece.now ≡ [] → IsOk result }
+        ensures one { OnErr result (fault_count self.new ≡ next_count (fault_count self.old)) }
         ensures obeys { IsSome (kept_at self.old (next_count (call_count self.old))) → IsErr result }
         ensures counts { call_count self.new ≡ next_count (call_count self.old) }
         ensures same_plan { (call : ℕ) → kept_at self.new call ≡ kept_at self.old call }

@@ -49,8 +49,8 @@ impl From<AllocError> for ReadFault {
 /// All bytes of the file `name`, where it has at most `limit`.
 ///
 /// The file is read with a buffer of 65,536 bytes until a read answers 0. `Limit` comes at the
-/// first byte beyond the limit, and no later byte is asked for. `Failed` comes only where the count
-/// of faults of this name rose in this call.
+/// first byte beyond the limit. `Failed` comes only where the count of faults of this name rose in
+/// this call; a file that is answered raised no count.
 pub fn read_file<F: Files>(
     alloc: Global,
     files: &mut F,
@@ -62,6 +62,7 @@ pub fn read_file<F: Files>(
     ensures there { OnOk result (IsThere (F.told files.old) name.now) }
     ensures limit { result ≡ Err ReadFault.Limit → IfSome (told_file (F.told files.old) name.now) (λ file. limit < length file) }
     ensures failed { result ≡ Err ReadFault.Failed → Rose (F.faults files.old name.now) (F.faults files.new name.now) }
+    ensures no_fault { OnOk result ((other : List ℕ) → F.faults files.new other ≡ F.faults files.old other) }
     ensures same_content { F.told files.new ≡ F.told files.old }
     ensures none_falls { (other : List ℕ) → F.faults files.old other ≤ F.faults files.new other }
 {
@@ -96,6 +97,7 @@ fn append_rest<F: Files>(
     ensures limit { result ≡ Err ReadFault.Limit → IfSome (told_file (F.told files.old) name.now)
         (λ file. StartsWith file bytes.old.items → limit < length file) }
     ensures failed { result ≡ Err ReadFault.Failed → Rose (F.faults files.old name.now) (F.faults files.new name.now) }
+    ensures no_fault { OnOk result ((other : List ℕ) → F.faults files.new other ≡ F.faults files.old other) }
     ensures same_content { F.told files.new ≡ F.told files.old }
     ensures none_falls { (other : List ℕ) → F.faults files.old other ≤ F.faults files.new other }
 {
@@ -123,6 +125,7 @@ fn append_part<F: Files>(
     ensures limit { result ≡ Err ReadFault.Limit → IfSome (told_file (F.told files.old) name.now)
         (λ file. StartsWith file bytes.old.items → limit < length file) }
     ensures failed { result ≡ Err ReadFault.Failed → Rose (F.faults files.old name.now) (F.faults files.new name.now) }
+    ensures no_fault { OnOk result ((other : List ℕ) → F.faults files.new other ≡ F.faults files.old other) }
     ensures same_content { F.told files.new ≡ F.told files.old }
     ensures none_falls { (other : List ℕ) → F.faults files.old other ≤ F.faults files.new other }
 {

@@ -103,6 +103,22 @@ fn a_failed_write_keeps_a_prefix(rt: HostRuntime) -> Result<(), Fail> {
 }
 
 #[test]
+fn faults_are_told_in_words(rt: HostRuntime) -> Result<(), Fail> {
+    for (fault, text) in [
+        (ReadFault::Failed, "the file can't be read"),
+        (ReadFault::Limit, "the file is over the limit"),
+        (ReadFault::Memory, "out of memory"),
+    ] {
+        assert_eq!(rt; fault.to_string(rt.alloc())?.as_str(), text);
+    }
+    assert_eq!(rt;
+        Failed.to_string(rt.alloc())?.as_str(),
+        "a read or a write failed"
+    );
+    Ok(())
+}
+
+#[test]
 fn writes_long_texts_in_pieces(rt: HostRuntime) -> Result<(), Fail> {
     let text = repeated(rt.alloc(), b'a', 70_000)?;
     for (failing, answer, length) in [(9, Ok(()), 70_000), (2, Err(Failed), 65_546)] {

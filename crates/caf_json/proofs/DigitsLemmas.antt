@@ -3,7 +3,7 @@ use Rattle.std.proofs.Common.{◌≡◌, ℕ, ◌+◌, ◌*◌, ◌/◌, ◌%◌
 use Rattle.hex.specs.Hex.{lower_digits, encode_lower, encode_with}
 use Rattle.caf_words.specs.Spelling.{AreBytes}
 use Rattle.caf_text.specs.TextReading.{digit_value, pair_value}
-use Rattle.caf_text.proofs.Digits.{digit_back, digit_is, pair_is}
+use Rattle.caf_text.proofs.DigitLemmas.{digit_back, digit_is, pair_is}
 use Rattle.caf_json.specs.Digits.{in_front, unhex}
 
 pub unhex_back : (bs : List ℕ) → AreBytes bs → unhex (encode_lower bs) ≡ Some bs

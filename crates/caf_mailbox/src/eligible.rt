@@ -9,8 +9,10 @@ pub trait Eligible {
     ghost use Rattle.caf_message.specs.declared.envelope.Taken.{Taken};
     ghost use Rattle.caf_message.specs.Envelope.{plain_envelope};
 
+    /// Which envelopes may be handled now, by their plain form.
     ghost test: { Self → Taken → Bool };
 
+    /// Whether the envelope may be handled now.
     fn eligible(&self, envelope: &mut Envelope) -> bool
         ensures answer { result ≡ test self.now (plain_envelope envelope.old) }
         ensures kept { plain_envelope envelope.new ≡ plain_envelope envelope.old };

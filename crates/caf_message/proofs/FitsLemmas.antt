@@ -16,41 +16,10 @@ use Rattle.caf_message.specs.Fits.{AreValues, HaveShapes, Means, Fits, FitsTable
 use Rattle.caf_message.specs.Builder.{Built, IsBuilt, BuiltFits, built_content}
 use Rattle.caf_message.proofs.ContentLemmas.{spellings-push, count-data_of, same_ids, same_words, drop-content}
 
--- ---- values of the program are spelled by their shapes
-
--- where a value fits a shape, its spelling is one of the shape
-abbrev pub IsSound : Datum → Type 0
-IsSound d = (f : ShapeTree) → fits f d ≡ true → Spells f d (spelling d)
-
-abbrev pub AreSound : List Datum → Type 0
-AreSound [] = Unit {0}
-AreSound (d ∷ ds) = IsSound d × AreSound ds
-
-pub AreSound-push : (ds : List Datum) (d : Datum) → AreSound ds → IsSound d → AreSound (ds ++ d ∷ [])
-AreSound-push [] d all one = (one, tt)
-AreSound-push (e ∷ es) d all one = (all.0, AreSound-push es d all.1 one)
-
-both : (a b : Bool) → (a && b) ≡ true → (a ≡ true) × (b ≡ true)
-both true b h = (refl, h)
-both false b h = absurd cc
-
-pub sound_values : (fs : List ShapeTree) (ds : List Datum) → AreSound ds → several_fit fs (data_of ds) ≡ true → AreValues fs (data_of ds)
-sound_values [] [] sound fit = (refl, refl)
-sound_values [] (d ∷ ds) sound fit = absurd cc
-sound_values (f ∷ fs) [] sound fit = absurd cc
-sound_values (f ∷ fs) (d ∷ ds) sound fit =
-    let p = both (fits f d) (several_fit fs (data_of ds)) fit in
-    (d, data_of ds, refl, spelling d, spellings (data_of ds), sound.0 f p.0, sound_values fs ds sound.1 p.1, refl)
-
 -- ---- a spelling is the one spelling, and what is spelled fits
 
 pub is_spelling : (f : ShapeTree) (d : Datum) (ws : List ℕ) → Spells f d ws → ws ≡ spelling d
 is_spelling f d ws s = (is_kept f d ws s).words
-
-pub several_are_fit : (fs : List ShapeTree) (ds : Data) (ws : List ℕ) → SeveralSpell fs ds ws → several_fit fs ds ≡ true
-several_are_fit [] ds ws (e, is) = ap is_none e
-several_are_fit (f ∷ fs) ds ws (d, es, e, a, b, first, others, is) =
-    ap (several_fit (f ∷ fs)) e ∙ and_true (is_kept f d a first).fits (several_are_fit fs es b others)
 
 pub several_spelled : (fs : List ShapeTree) (ds : Data) (ws : List ℕ) → SeveralSpell fs ds ws → ws ≡ spellings ds
 several_spelled [] ds ws (e, is) = is ∙ ap spellings (sym e)
@@ -265,7 +234,13 @@ means_of t words ids fit same values spell =
           ∙ ap (λ (ws : List ℕ). length ids ∷ (ids ++ ws)) (behind ∙ several_spelled fit.means.shapes values (drop (length ids + 1) words) several);
     }
 
-pub means_fit : (shape_of : ℕ → Option ShapeTree) (words ids : List ℕ) (shapes : List ShapeTree) (values : Data) → HaveShapes shape_of ids shapes → Means shape_of words ids values → several_fit shapes values ≡ true
-means_fit shape_of words ids shapes values have m =
-    let same : m.shapes ≡ shapes = same_shapes m.shapes shapes (sym m.have_shapes ∙ have) in
-    ap (λ (fs : List ShapeTree). several_fit fs values) (sym same) ∙ several_are_fit m.shapes values (spellings values) m.are_values
+-- behind the IDs of a row, in a content that fits the table, stand the spellings of values of its shapes
+pub behind_ids : (t : Table) (words ids : List ℕ) (fs : List ShapeTree) (fit : FitsTable t words) → HaveShapes (shape_at t) ids fs → ids_in words ≡ ids → SeveralSpell fs fit.values (drop (length ids + 1) words)
+behind_ids t words ids fs fit have same =
+    subst (λ (o : Option (List ShapeTree)). ShapesSpell o fit.values (drop (length ids + 1) words)) (shapes_found t ids fs have) (spelled_behind t words ids fit same)
+
+-- and what they spell is what the content means
+pub means_row : (t : Table) (words ids : List ℕ) (fs : List ShapeTree) (fit : FitsTable t words) → HaveShapes (shape_at t) ids fs → ids_in words ≡ ids → (values : Data) → SeveralSpell fs values (drop (length ids + 1) words) → Means (shape_at t) words ids values
+means_row t words ids fs fit have same values s =
+    means_of t words ids fit same values
+    (subst (λ (o : Option (List ShapeTree)). ShapesSpell o values (drop (length ids + 1) words)) (sym (shapes_found t ids fs have)) s)

@@ -1,5 +1,6 @@
 -- When a message is refused, and when a view is. Want of memory has no cause.
 use Rattle.std.specs.Prelude.{◌≡◌, ◌≢◌, ℕ, ◌<◌, ◌≤◌, List, length, Result, Ok, Err}
+use Rattle.caf_tuple.specs.declared.block.TheConstants.{MOST_WORDS}
 use Rattle.caf_tuple.specs.declared.fault.TupleFault.{TupleFault}
 use Rattle.caf_tuple.specs.declared.fault.TupleFault.TheVariants as tuple_faults
 use Rattle.caf_message.specs.declared.fault.MessageFault.{MessageFault}
@@ -12,10 +13,10 @@ abbrev pub message_fault : TupleFault → MessageFault
 message_fault tuple_faults.Large = message_faults.Large
 message_fault tuple_faults.Memory = message_faults.Memory
 
--- `Large` exactly where the content is over 4,194,304 words
+-- `Large` exactly where the content is over the most words
 abbrev pub LargeExactly : {A : Type 0} → Result A MessageFault → List ℕ → Type 0
-LargeExactly (Ok x) content = length content ≤ 4194304
-LargeExactly (Err message_faults.Large) content = 4194304 < length content
+LargeExactly (Ok x) content = length content ≤ MOST_WORDS
+LargeExactly (Err message_faults.Large) content = MOST_WORDS < length content
 LargeExactly (Err message_faults.Memory) content = Unit {0}
 
 -- `Types` exactly where the IDs that stand there aren't those that are wanted

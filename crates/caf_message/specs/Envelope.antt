@@ -11,6 +11,8 @@ use Rattle.caf_message.specs.declared.envelope.Plain.{Plain}
 use Rattle.caf_message.specs.declared.envelope.Plain.TheVariants as «plain»
 use Rattle.caf_message.specs.declared.envelope.Taken.{Taken}
 use Rattle.caf_message.specs.Fits.{Fits}
+use Rattle.caf_message.specs.Message.{HasLooked}
+use Rattle.caf_types.specs.Limits as limits
 use Rattle.caf_types.specs.ShapeTree.{ShapeTree}
 
 -- ---- plain form
@@ -22,6 +24,20 @@ plain_body (body.System what) = «plain».System what
 
 abbrev pub plain_envelope : Envelope → Taken
 plain_envelope e = record { sender = e.sender; seq = e.seq; mid = e.mid; priority = e.priority; stamp = e.stamp; body = plain_body e.body }
+
+-- ---- looking at a content
+
+-- a content was only looked at: its first words were read, in order, each once
+abbrev pub BodyHasLooked : Body → Body → Type 0
+BodyHasLooked (body.Content old) (body.Content new) = HasLooked old new
+BodyHasLooked (body.Failure old) new = new ≡ body.Failure old
+BodyHasLooked (body.System old) new = new ≡ body.System old
+BodyHasLooked _ _ = ⊥
+
+-- and all beside the body is as before
+pub record EnvelopeHasLooked (old new : Envelope) : Type 0 where
+  pub fields : new ≡ record old { body = new.body }
+  pub body : BodyHasLooked old.body new.body
 
 -- ---- classes
 
@@ -81,7 +97,7 @@ pub record IsInForm (e : Taken) : Type 0 where
 
 -- the outside's number as a sender
 abbrev pub outside : ℕ
-outside = 256
+outside = limits.outside
 
 abbrev pub from_outside : ℕ → ℕ → Notice → Taken
 from_outside seq stamp what = record { sender = outside; seq = seq; mid = no_request outside; priority = priority.Urgent; stamp = stamp; body = «plain».System what }

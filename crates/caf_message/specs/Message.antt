@@ -1,5 +1,5 @@
 -- What the calls of a message do to its reference.
-use Rattle.std.specs.Prelude.{◌≡◌, ◌≢◌, ℕ, ◌≤◌, true, List, [], ◌∷◌, ◌++◌, length}
+use Rattle.std.specs.Prelude.{◌≡◌, ◌≢◌, ℕ, ◌≤◌, true, List, [], ◌∷◌, ◌++◌, length, Option, Some, None}
 use Rattle.caf_steps.specs.declared.step.Step.{Step}
 use Rattle.caf_steps.specs.declared.step.Step.TheVariants.{Test, Read, Write}
 use Rattle.caf_steps.specs.declared.reference.Reference.{Reference}
@@ -68,3 +68,11 @@ abbrev pub Replaces : Replaced → List ℕ → Reference → Reference → Type
 Replaces Fresh words old new = (length words ≢ length old.content) × (new ≡ fresh words)
 Replaces InPlace words old new = (length words ≡ length old.content) × Rewrites words (tested 1 old) new
 Replaces (Copied count) words old new = (length words ≡ length old.content) × (2 ≤ count) × Rewrites words (fresh old.content) new
+
+-- The old reference is handed back where the content is in a new block: after the one test, which read
+-- the count, and the reads of the copy, or as it was where the length changed.
+abbrev pub HandsBack : Replaced → Option Reference → Reference → Type 0
+HandsBack Fresh (Some before) old = before ≡ old
+HandsBack InPlace None old = Unit {0}
+HandsBack (Copied count) (Some before) old = before ≡ looked (length old.content) (tested count old)
+HandsBack _ _ old = ⊥

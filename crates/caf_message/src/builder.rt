@@ -10,11 +10,11 @@ ghost use Rattle.caf_message.specs.Fits.{Fits};
 ghost use Rattle.caf_message.specs.Builder.{BuiltFits, built_content};
 ghost use Rattle.caf_message.specs.Answers.{LargeExactly};
 
-use crate::row::{push_word, push_words};
+use crate::row::push_words;
 use crate::{Message, MessageFault};
 use caf_tuple::Tuple;
 use caf_types::{Memory, TypeId, TypeTable};
-use caf_words::{Value, spell};
+use caf_words::{Value, spell, write_word};
 use std::alloc::Global;
 use std::marker::Model;
 
@@ -58,7 +58,7 @@ impl MessageBuilder {
         ensures memory { OnErr result (self.new ≡ self.old) }
     {
         let words = spell(*self.words.allocator(), value)?;
-        push_word(&mut self.ids, id.0 as u64)?;
+        write_word(&mut self.ids, id.0 as u64)?;
         if let Err(memory) = push_words(&mut self.words, words.as_slice()) {
             let _ = self.ids.pop();
             return Err(memory);
@@ -66,7 +66,7 @@ impl MessageBuilder {
         Ok(())
     }
 
-    /// The message. `Large` exactly where its content is over 4,194,304 words.
+    /// The message. `Large` exactly where its content is over [`MOST_WORDS`](caf_tuple::MOST_WORDS) words.
     pub fn finish(self) -> Result<Message, MessageFault>
         ensures made { IfOk result (λ message. message ≡ fresh (built_content self)) }
         ensures large { LargeExactly result (built_content self) }
@@ -85,7 +85,7 @@ fn joined(alloc: Global, ids: &[u64], words: &[u64]) -> Result<Vec<u64>, Memory>
     ensures { IfOk result (λ content. content.items ≡ length ids.now ∷ (ids.now ++ words.now)) }
 {
     let mut content = Vec::new(alloc);
-    push_word(&mut content, ids.len() as u64)?;
+    write_word(&mut content, ids.len() as u64)?;
     push_words(&mut content, ids)?;
     push_words(&mut content, words)?;
     Ok(content)

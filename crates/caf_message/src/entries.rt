@@ -6,5 +6,6 @@
 pub trait Entries {
     ghost use Rattle.caf_message.specs.Entries.{TableEntries};
 
+    /// The entries that it needs.
     ghost entries: { TableEntries };
 }

@@ -1,5 +1,5 @@
 ghost use Rattle.std.specs.Prelude.{◌≡◌, IfOk};
-ghost use Rattle.caf_message.specs.Envelope.{plain_body, plain_envelope};
+ghost use Rattle.caf_message.specs.Envelope.{plain_body, plain_envelope, BodyHasLooked, EnvelopeHasLooked};
 
 use crate::Message;
 use caf_types::{Memory, Mid, Notice, Priority, Sec, Seq, Words};
@@ -8,24 +8,28 @@ use std::alloc::Global;
 /// What an envelope carries.
 #[derive(Debug, Drop)]
 pub enum Body {
+    /// Typed elements: a request's or response's content, or a plain message's.
     Content(Message),
     /// The error that answers a request.
     Failure(Sec),
+    /// A notice of the machine itself.
     System(Notice),
 }
 
 /// A body with its sender and all that places it.
 #[derive(Debug, Drop)]
 pub struct Envelope {
-    /// The place that sent it; 256 is the outside.
+    /// The place that sent it; [`OUTSIDE`](caf_types::OUTSIDE) is the outside.
     pub sender: u32,
     /// Its number among what the sender sent to this receiver, from 0.
     pub seq: u64,
     /// Whose request it is or answers.
     pub mid: Mid,
+    /// Whether the receiver takes it before its normal envelopes.
     pub priority: Priority,
     /// The stamp of the batch in which it was sent.
     pub stamp: u64,
+    /// What it carries.
     pub body: Body,
 }
 
@@ -35,27 +39,38 @@ pub type Batch = Seq<Envelope>;
 /// A body in plain form: content as a list of words.
 #[derive(Debug, Drop)]
 pub enum Plain {
+    /// The content's words.
     Content(Words),
+    /// The error that answers a request.
     Failure(Sec),
+    /// A notice of the machine itself.
     System(Notice),
 }
 
 /// An envelope in plain form, as a journal keeps it: without the tuple that held its content.
 #[derive(Debug, Drop)]
 pub struct Taken {
+    /// The place that sent it; [`OUTSIDE`](caf_types::OUTSIDE) is the outside.
     pub sender: u32,
+    /// Its number among what the sender sent to this receiver, from 0.
     pub seq: u64,
+    /// Whose request it is or answers.
     pub mid: Mid,
+    /// Whether the receiver takes it before its normal envelopes.
     pub priority: Priority,
+    /// The stamp of the batch in which it was sent.
     pub stamp: u64,
+    /// What it carried.
     pub body: Plain,
 }
 
 impl Body {
-    /// A plain copy. Contents are read once, and stay.
+    /// A plain copy. A content is only looked at: each word is read at most once, and content, room
+    /// and soleness stay.
     pub fn to_plain(&mut self, alloc: Global) -> Result<Plain, Memory>
         ensures copy { IfOk result (λ body. body ≡ plain_body self.old) }
         ensures kept { plain_body self.new ≡ plain_body self.old }
+        ensures looked { BodyHasLooked self.old self.new }
     {
         Ok(match self {
             Body::Content(message) => Plain::Content(message.words(alloc)?),
@@ -66,10 +81,12 @@ impl Body {
 }
 
 impl Envelope {
-    /// A plain copy, for a journal. Contents are read once, and stay.
+    /// A plain copy, for a journal. A content is only looked at: each word is read at most once, and
+    /// content, room and soleness stay.
     pub fn to_taken(&mut self, alloc: Global) -> Result<Taken, Memory>
         ensures copy { IfOk result (λ taken. taken ≡ plain_envelope self.old) }
         ensures kept { plain_envelope self.new ≡ plain_envelope self.old }
+        ensures looked { EnvelopeHasLooked self.old self.new }
     {
         let body = self.body.to_plain(alloc)?;
         Ok(Taken {

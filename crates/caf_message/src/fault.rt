@@ -9,9 +9,10 @@ use thiserror::Error;
 /// Why a message was not made or replaced.
 #[derive(Error, Clone, Copy, Debug, PartialEq, Eq, Drop)]
 pub enum MessageFault {
-    /// The content is over 4,194,304 words.
+    /// The content is over [`MOST_WORDS`](caf_tuple::MOST_WORDS) words.
     #[error("a message of more than 4194304 words")]
     Large,
+    /// Want of memory.
     #[error("out of memory")]
     Memory,
 }
@@ -43,6 +44,7 @@ pub enum ViewFault {
     /// The message's IDs aren't the row's.
     #[error("a message of other types")]
     Types,
+    /// Want of memory.
     #[error("out of memory")]
     Memory,
 }

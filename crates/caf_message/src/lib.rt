@@ -25,7 +25,7 @@ pub use builder::MessageBuilder;
 pub use entries::Entries;
 pub use envelope::{Batch, Body, Envelope, Plain, Taken};
 pub use fault::{MessageFault, ViewFault};
-pub use laws::{entries_fit_their_tables, one_meaning};
+pub use laws::{entries_fit_their_tables, exchange_words, one_meaning};
 pub use message::Message;
 pub use replacing::Replaced;
 

@@ -3,14 +3,13 @@ ghost use Rattle.caf_types.specs.ShapeTree.{ShapeTree};
 ghost use Rattle.caf_steps.specs.Reference.{fresh};
 ghost use Rattle.caf_message.specs.Content.{content_of, ids_in};
 ghost use Rattle.caf_message.specs.Fits.{Fits, HaveShapes};
-ghost use Rattle.caf_message.specs.Message.{IsAsBefore, BecomesSole, Rewrites, Replaces};
-ghost use Rattle.caf_message.specs.declared.replacing.Replaced.TheVariants.{Fresh, InPlace};
-ghost use Rattle.caf_tuple.specs.Tuple.{GaveUp};
+ghost use Rattle.caf_message.specs.Message.{IsAsBefore, Rewrites, Replaces};
+ghost use Rattle.caf_message.specs.declared.replacing.Replaced.TheVariants.{InPlace};
 ghost use Rattle.caf_message.specs.Answers.{LargeExactly};
 
+use crate::laws::exchange_words;
 use crate::{Message, MessageFault, row};
-use caf_tuple::{Owned, Tuple};
-use caf_types::Memory;
+use caf_tuple::Tuple;
 use caf_words::Row;
 use std::alloc::Global;
 
@@ -26,8 +25,8 @@ pub enum Replaced {
 }
 
 impl Message {
-    /// A message of the row's types and values. `Large` exactly where its content is over 4,194,304
-    /// words.
+    /// A message of the row's types and values. `Large` exactly where its content is over
+    /// [`MOST_WORDS`](caf_tuple::MOST_WORDS) words.
     pub fn of<T: Row>(alloc: Global, row: &T) -> Result<Message, MessageFault>
         ensures made { IfOk result (λ message. message ≡ fresh (content_of T.ids (T.means row.now))) }
         ensures large { LargeExactly result (content_of T.ids (T.means row.now)) }
@@ -39,10 +38,11 @@ impl Message {
     }
 
     /// Makes the content the row's. Other messages keep theirs. A sole message whose length stays is
-    /// written in place.
+    /// written in place. It goes through [`exchange_words`], and gives up the old reference that this
+    /// hands back.
     ///
-    /// `Large` exactly where the content would be over 4,194,304 words. After a refusal the content
-    /// is as before, and the steps grew by at most one test and by reads.
+    /// `Large` exactly where the content would be over [`MOST_WORDS`](caf_tuple::MOST_WORDS) words.
+    /// After a refusal the content is as before, and the steps grew by at most one test and by reads.
     pub fn replace<T: Row>(&mut self, alloc: Global, row: &T) -> Result<Replaced, MessageFault>
         requires { ids_in self.old.content ≡ T.ids }
         ensures content { OnOk result (self.new.content ≡ content_of T.ids (T.means row.now)) }
@@ -54,66 +54,13 @@ impl Message {
         ensures refused { OnErr result (IsAsBefore self.old self.new) }
     {
         let content = row::content(alloc, row)?;
-        let replaced = replace_words(&mut self.tuple, alloc, content.as_slice())?;
+        let (replaced, _) = exchange_words(alloc, &mut self.tuple, content.as_slice())?;
         Ok(replaced)
     }
 }
 
-/// Makes the content these words.
-fn replace_words(tuple: &mut Tuple, alloc: Global, words: &[u64]) -> Result<Replaced, MessageFault>
-    ensures answer { IfOk result (λ replaced. Replaces replaced words.now tuple.old tuple.new) }
-    ensures content { OnOk result (tuple.new.content ≡ words.now) }
-    ensures sole_in_place { tuple.old.sole ≡ true → length words.now ≡ length tuple.old.content
-        → IfOk result (λ replaced. replaced ≡ InPlace) }
-    ensures large { LargeExactly result words.now }
-    ensures refused { OnErr result (IsAsBefore tuple.old tuple.new) }
-{
-    if words.len() as u64 == tuple.len() {
-        Ok(write_over(tuple, alloc, words)?)
-    } else {
-        renew(tuple, alloc, words)
-    }
-}
-
-/// Puts the words into a new block.
-fn renew(tuple: &mut Tuple, alloc: Global, words: &[u64]) -> Result<Replaced, MessageFault>
-    ensures answer { IfOk result (λ replaced. (replaced ≡ Fresh) × (tuple.new ≡ fresh words.now)) }
-    ensures large { LargeExactly result words.now }
-    ensures refused { OnErr result (tuple.new ≡ tuple.old) }
-{
-    *tuple = Tuple::make(alloc, words)?;
-    Ok(Replaced::Fresh)
-}
-
-/// Writes as many words as stand there.
-fn write_over(tuple: &mut Tuple, alloc: Global, words: &[u64]) -> Result<Replaced, Memory>
-    requires { length words.now ≡ length tuple.old.content }
-    ensures answer { IfOk result (λ replaced. Replaces replaced words.now tuple.old tuple.new) }
-    ensures content { OnOk result (tuple.new.content ≡ words.now) }
-    ensures sole_in_place { tuple.old.sole ≡ true → IfOk result (λ replaced. replaced ≡ InPlace) }
-    ensures refused { OnErr result (IsAsBefore tuple.old tuple.new) }
-{
-    let replaced = own(tuple, alloc)?;
-    rewrite(tuple, words);
-    Ok(replaced)
-}
-
-/// Makes the reference sole.
-fn own(tuple: &mut Tuple, alloc: Global) -> Result<Replaced, Memory>
-    ensures answer { IfOk result (λ replaced. BecomesSole replaced tuple.old tuple.new) }
-    ensures sole { OnOk result (tuple.new.sole ≡ true) }
-    ensures content { OnOk result (tuple.new.content ≡ tuple.old.content) }
-    ensures sole_in_place { tuple.old.sole ≡ true → IfOk result (λ replaced. replaced ≡ InPlace) }
-    ensures refused { OnErr result (GaveUp tuple.old tuple.new) }
-{
-    match tuple.own(alloc)? {
-        Owned::Kept => Ok(Replaced::InPlace),
-        Owned::Copied { count, before: _ } => Ok(Replaced::Copied(count)),
-    }
-}
-
 /// Writes the words that differ into a sole reference.
-fn rewrite(tuple: &mut Tuple, words: &[u64])
+pub(crate) fn rewrite(tuple: &mut Tuple, words: &[u64])
     requires sole { tuple.old.sole ≡ true }
     requires same_length { length words.now ≡ length tuple.old.content }
     ensures { Rewrites words.now tuple.old tuple.new }

@@ -7,7 +7,7 @@ ghost use Rattle.caf_message.specs.Fits.{HaveShapes};
 
 use crate::{Message, MessageBuilder, MessageFault, Replaced, ViewFault};
 use caf_types::{Memory, Seq, Shape, TypeId, TypeIds, TypeTable, type_block};
-use caf_words::{Row, Value, fits};
+use caf_words::{Row, Stop, Value, fits, read_signed, read_unit, write_signed, write_unit};
 use std::alloc::Global;
 use std::test::Fail;
 
@@ -33,22 +33,26 @@ impl Row for Add {
         Ok(types)
     }
 
-    fn to_values(&self, alloc: Global) -> Result<Seq<Value>, Memory> {
-        let mut values = Seq::new(alloc);
-        values.push(Value::Unit)?;
-        values.push(Value::Signed(self.left))?;
-        values.push(Value::Signed(self.right))?;
-        Ok(values)
+    fn shapes(alloc: Global) -> Result<Seq<Shape>, Memory> {
+        let mut shapes = Seq::new(alloc);
+        shapes.push(Shape::Unit)?;
+        shapes.push(Shape::Signed)?;
+        shapes.push(Shape::Signed)?;
+        Ok(shapes)
     }
 
-    fn from_values(alloc: Global, values: &Seq<Value>) -> Result<Add, Memory> {
-        match values.as_slice() {
-            [Value::Unit, Value::Signed(left), Value::Signed(right)] => Ok(Add {
-                left: *left,
-                right: *right,
-            }),
-            _ => Err(Memory),
-        }
+    fn write_words(&self, words: &mut Vec<u64>) -> Result<(), Memory> {
+        write_unit(words)?;
+        write_signed(words, self.left)?;
+        write_signed(words, self.right)?;
+        Ok(())
+    }
+
+    fn read_words(_alloc: Global, words: &[u64]) -> Result<(Add, &[u64]), Stop> {
+        let rest = read_unit(words)?;
+        let (left, rest) = read_signed(rest)?;
+        let (right, rest) = read_signed(rest)?;
+        Ok((Add { left, right }, rest))
     }
 
     ghost one_shape_each = { refl };
@@ -73,22 +77,48 @@ impl Row for Get {
         Ok(types)
     }
 
-    fn to_values(&self, alloc: Global) -> Result<Seq<Value>, Memory> {
-        let mut values = Seq::new(alloc);
-        values.push(Value::Unit)?;
-        Ok(values)
+    fn shapes(alloc: Global) -> Result<Seq<Shape>, Memory> {
+        let mut shapes = Seq::new(alloc);
+        shapes.push(Shape::Unit)?;
+        Ok(shapes)
     }
 
-    fn from_values(alloc: Global, values: &Seq<Value>) -> Result<Get, Memory> {
-        match values.as_slice() {
-            [Value::Unit] => Ok(Get),
-            _ => Err(Memory),
-        }
+    fn write_words(&self, words: &mut Vec<u64>) -> Result<(), Memory> {
+        write_unit(words)?;
+        Ok(())
+    }
+
+    fn read_words(_alloc: Global, words: &[u64]) -> Result<(Get, &[u64]), Stop> {
+        let rest = read_unit(words)?;
+        Ok((Get, rest))
     }
 
     ghost one_shape_each = { refl };
 
     ghost are_of_shapes = { λ row. refl };
+}
+
+#[test]
+fn faults_have_texts(rt: HostRuntime) -> Result<(), Fail> {
+    let alloc = rt.alloc();
+    for (text, expected) in [
+        (
+            format!(in alloc; "{}", MessageFault::Large)?,
+            "a message of more than 4194304 words",
+        ),
+        (
+            format!(in alloc; "{}", MessageFault::Memory)?,
+            "out of memory",
+        ),
+        (
+            format!(in alloc; "{}", ViewFault::Types)?,
+            "a message of other types",
+        ),
+        (format!(in alloc; "{}", ViewFault::Memory)?, "out of memory"),
+    ] {
+        assert_eq!(rt; text.as_str(), expected);
+    }
+    Ok(())
 }
 
 #[test]
@@ -119,6 +149,9 @@ fn contents_are_shared_until_they_are_replaced(rt: HostRuntime) -> Result<(), Fa
         other.words(alloc)?.as_slice(),
         [3, 211, 3, 3, 0, 2, 3].as_slice()
     );
+    // the old reference was given up, so the other is sole
+    let replaced = other.replace(alloc, &Add { left: 7, right: 8 })?;
+    assert_eq!(rt; replaced, Replaced::InPlace);
     let replaced = message.replace(alloc, &Add { left: 5, right: 6 })?;
     assert_eq!(rt; replaced, Replaced::InPlace);
     assert_eq!(rt;

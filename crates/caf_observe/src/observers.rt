@@ -103,10 +103,7 @@ fn add(places: &mut BTreeSet<u32>, place: u32) -> Result<bool, Memory>
     ensures kept { OnErr result (places.new.keys ≡ places.old.keys) }
     ensures set { IsStrictlyIncreasing places.new.keys }
 {
-    match places.insert(place) {
-        Ok(new) => Ok(new),
-        Err(_) => Err(Memory),
-    }
+    Ok(places.insert(place)?)
 }
 
 fn take_out(places: &mut BTreeSet<u32>, place: u32) -> bool

@@ -9,10 +9,10 @@ use Rattle.std.specs.BTreeMap.{insert_entry, is_at}
 use Rattle.std.proofs.lemmas.Bool.Decides.{nat_tests}
 use Rattle.caf_message.specs.Lists.{pick}
 use Rattle.caf_response.specs.declared.pending.Waiting.{Waiting}
-use Rattle.caf_response.specs.Filed.{waiting_in, AreFiled}
+use Rattle.caf_response.specs.Filed.{waiting_in, AreFiled, seen_as}
 use Rattle.std.specs.Prelude.{is_some}
 use Rattle.std.specs.Option.{option_map}
-use Rattle.caf_response.specs.Pending.{WaitingRequests, has_number, is_waiting, resolved, from_multiplexed, from_awaited}
+use Rattle.caf_response.specs.Pending.{WaitingRequests, has_number, is_waiting, resolved, without_due, from_multiplexed, from_awaited}
 use Rattle.caf_response.proofs.PickLemmas.{is_some-pick}
 
 above : (next k : ℕ) → k < next → nat_cmp next k ≡ Greater
@@ -74,35 +74,38 @@ module _ (w : Waiting) (es es' : List (ℕ × Waiting)) (filed : AreFiled w.numb
 
 -- ---- resolving
 
-is_some-from_awaited : (r : WaitingRequests) (found : Option (Waiting × List Waiting)) → is_some (from_awaited r found) ≡ is_some found
-is_some-from_awaited r None = refl
-is_some-from_awaited r (Some p) = refl
+is_some-from_awaited : (r : WaitingRequests) (number : ℕ) (found : Option (Waiting × List Waiting)) → is_some (from_awaited r number found) ≡ is_some found
+is_some-from_awaited r number None = refl
+is_some-from_awaited r number (Some p) = refl
 
 -- a request resolves where it waits
 pub is_some-resolved : (r : WaitingRequests) (number : ℕ) → is_some (resolved r number) ≡ is_waiting r number
 is_some-resolved r number = go (pick (has_number number) r.multiplexed) (sym (is_some-pick (has_number number) r.multiplexed)) where
   go : (found : Option (Waiting × List Waiting)) → list_any (has_number number) r.multiplexed ≡ is_some found → is_some (from_multiplexed r number found) ≡ is_waiting r number
-  go None e = rw e (is_some-from_awaited r (pick (has_number number) r.awaited) ∙ is_some-pick (has_number number) r.awaited)
+  go None e = rw e (is_some-from_awaited r number (pick (has_number number) r.awaited) ∙ is_some-pick (has_number number) r.awaited)
   go (Some p) e = rw e refl
 
 pub is_some-resolve : (r : WaitingRequests) (number : ℕ) (found : Option Waiting) (rest : WaitingRequests) → option_map (λ w. (w, rest)) found ≡ resolved r number → is_some found ≡ is_waiting r number
 is_some-resolve r number None rest e = ap is_some e ∙ is_some-resolved r number
 is_some-resolve r number (Some w) rest e = ap is_some e ∙ is_some-resolved r number
 
-module _ (next number : ℕ) (stack : List Waiting) (es es' : List (ℕ × Waiting)) (r : WaitingRequests) (filed : AreFiled next es)
-    (view : record { next = next; awaited = stack; multiplexed = waiting_in es } ≡ r) where
-  pub resolved-multiplexed : (w : Waiting) → lookup (is_at (nat_cmp number)) es ≡ Some w → es' ≡ remove_entry (is_at (nat_cmp number)) es
-      → Some (w, record { next = next; awaited = stack; multiplexed = waiting_in es' }) ≡ resolved r number
-  resolved-multiplexed w found set =
-      subst (λ (q : WaitingRequests). Some (w, record { next = next; awaited = stack; multiplexed = waiting_in es' }) ≡ resolved q number) view
-      (rw (pick-number next number es w filed found, set) refl)
+module _ (next number : ℕ) (stack : List Waiting) (es es' : List (ℕ × Waiting)) (due : List (ℕ × ℕ)) (r : WaitingRequests) (filed : AreFiled next es)
+    (view : seen_as next stack es due ≡ r) where
+  -- nothing is found
+  pub no_resolved : lookup (is_at (nat_cmp number)) es ≡ None → None ≡ pick (has_number number) stack → None ≡ resolved r number
+  no_resolved none e =
+      subst (λ (q : WaitingRequests). None ≡ resolved q number) view
+      (rw (pick-no_number next number es filed none) (ap (from_awaited (seen_as next stack es due) number) e))
 
-  pub resolved-awaited : (stack' : List Waiting) (found : Option Waiting) → lookup (is_at (nat_cmp number)) es ≡ None → es' ≡ es → option_map (λ w. (w, stack')) found ≡ pick (has_number number) stack
-      → option_map (λ w. (w, record { next = next; awaited = stack'; multiplexed = waiting_in es' })) found ≡ resolved r number
-  resolved-awaited stack' found none same e =
-      subst (λ (q : WaitingRequests). option_map (λ w. (w, record { next = next; awaited = stack'; multiplexed = waiting_in es' })) found ≡ resolved q number) view
-      (rw (pick-no_number next number es filed none, same) (go found e)) where
-        go : (f : Option Waiting) → option_map (λ w. (w, stack')) f ≡ pick (has_number number) stack
-            → option_map (λ w. (w, record { next = next; awaited = stack'; multiplexed = waiting_in es })) f ≡ from_awaited (record { next = next; awaited = stack; multiplexed = waiting_in es }) (pick (has_number number) stack)
-        go None t = rw (sym t) refl
-        go (Some w) t = rw (sym t) refl
+  module _ (due' : List (ℕ × ℕ)) (ends : due' ≡ without_due number due) where
+    pub resolved-multiplexed : (w : Waiting) → lookup (is_at (nat_cmp number)) es ≡ Some w → es' ≡ remove_entry (is_at (nat_cmp number)) es
+        → Some (w, seen_as next stack es' due') ≡ resolved r number
+    resolved-multiplexed w found set =
+        subst (λ (q : WaitingRequests). Some (w, seen_as next stack es' due') ≡ resolved q number) view
+        (rw (pick-number next number es w filed found, set, ends) refl)
+
+    pub resolved-awaited : (stack' : List Waiting) (w : Waiting) → lookup (is_at (nat_cmp number)) es ≡ None → es' ≡ es → Some (w, stack') ≡ pick (has_number number) stack
+        → Some (w, seen_as next stack' es' due') ≡ resolved r number
+    resolved-awaited stack' w none same e =
+        subst (λ (q : WaitingRequests). Some (w, seen_as next stack' es' due') ≡ resolved q number) view
+        (rw (pick-no_number next number es filed none, same, ends, sym e) refl)

@@ -12,10 +12,10 @@ abbrev pub AreFiled : ℕ → List (ℕ × Waiting) → Type 0
 AreFiled next es = AllByRecursion (λ e. (e.0 ≡ e.1.number) × (e.0 < next)) es
 
 -- what is kept so means these requests
-abbrev pub seen_as : ℕ → List Waiting → List (ℕ × Waiting) → WaitingRequests
-seen_as next awaited es = record { next = next; awaited = awaited; multiplexed = waiting_in es }
+abbrev pub seen_as : ℕ → List Waiting → List (ℕ × Waiting) → List (ℕ × ℕ) → WaitingRequests
+seen_as next awaited es due = record { next = next; awaited = awaited; multiplexed = waiting_in es; due = due }
 
 -- what `Pending` keeps at all times
-pub record IsInForm (next : ℕ) (awaited : List Waiting) (es : List (ℕ × Waiting)) : Type 0 where
+pub record IsInForm (next : ℕ) (awaited : List Waiting) (es : List (ℕ × Waiting)) (due : List (ℕ × ℕ)) : Type 0 where
   pub filed : AreFiled next es
-  pub numbered : AreNumbered (seen_as next awaited es)
+  pub numbered : AreNumbered (seen_as next awaited es due)

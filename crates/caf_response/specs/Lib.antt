@@ -1,6 +1,8 @@
+pub mod Lines
 pub mod Pending
+pub mod Due
 pub mod Filed
 pub mod Promised
 pub mod Promise
 pub mod Holds
-pub mod Lines
+pub mod Delays

@@ -10,6 +10,7 @@ pub enum IssueFault {
     /// All 2^63 numbers were given.
     #[error("no request number is left")]
     Spent,
+    /// Want of memory.
     #[error("out of memory")]
     Memory,
 }

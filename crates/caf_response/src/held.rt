@@ -1,3 +1,7 @@
+ghost use Rattle.std.specs.Prelude.{◌≡◌};
+ghost use Rattle.caf_response.specs.Holds.{key_of};
+
+use crate::line::Lined;
 use caf_types::{Mid, Priority};
 use std::marker::Model;
 
@@ -14,4 +18,13 @@ impl Model for Held {
     ghost Value = { Promised };
 
     ghost view = { λ held. record { mid = held.mid; priority = held.priority } };
+}
+
+impl Lined for Held {
+    ghost key = { key_of };
+
+    /// By number, then by requester.
+    fn key(&self) -> (u64, u32) {
+        (self.mid.number, self.mid.requester)
+    }
 }

@@ -19,7 +19,7 @@ use std::marker::Model;
 pub struct Holds {
     alloc: Global,
     /// By number, then by requester.
-    lines: Lines,
+    lines: Lines<Held>,
 }
 
 impl Model for Holds {
@@ -28,11 +28,12 @@ impl Model for Holds {
 
     ghost Value = { List Promised };
 
+    ghost use Rattle.caf_response.specs.Holds.{key_of};
     ghost use Rattle.caf_response.specs.Lines.{in_lines, AreFiled};
 
     ghost view = { λ holds. in_lines holds.lines.entries };
 
-    ghost invariant = { λ holds. AreFiled holds.lines.entries };
+    ghost invariant = { λ holds. AreFiled key_of holds.lines.entries };
 }
 
 impl Holds {
@@ -53,7 +54,10 @@ impl Holds {
         ensures some { is_some result ≡ is_held self.old requester number }
         ensures kept { IfNone result (self.new ≡ self.old) }
     {
-        take_out(&mut self.lines, (number, requester))
+        match take_out(&mut self.lines, (number, requester)) {
+            Some(held) => Some(Promise::of_held(held)),
+            None => None,
+        }
     }
 
     /// Takes out the first promise by the request's number, then its requester, then arrival; None
@@ -63,7 +67,10 @@ impl Holds {
         ensures least { IfSome result (λ promise. AllByRecursion (λ other. is_before other promise ≡ false) self.old) }
         ensures kept { IfNone result (self.new ≡ self.old) }
     {
-        take_first(&mut self.lines)
+        match take_first(&mut self.lines) {
+            Some(held) => Some(Promise::of_held(held)),
+            None => None,
+        }
     }
 
     /// Puts one in, behind those of the same number and requester. It comes back where memory is

@@ -1,19 +1,17 @@
-ghost use Rattle.std.specs.Prelude.{◌≡◌, false, ◌↔◌, ◌+◌, ◌<◌, IfOk, OnOk, OnErr, Err, IfNone, is_some, MatchOption, None, Some, length, remove, slice_index_or, [], ◌∷◌, ◌++◌};
+ghost use Rattle.std.specs.Prelude.{◌≡◌, false, ◌↔◌, ◌+◌, ◌<◌, IfOk, OnOk, OnErr, Err, IfNone, is_some, nat_lt, MatchOption, None, Some, length, remove, slice_index_or, [], ◌∷◌, ◌++◌};
 ghost use Rattle.std.specs.Option.{option_map};
 ghost use Rattle.caf_message.specs.Lists.{pick};
 ghost use Rattle.caf_response.specs.declared.pending.Waiting.{Waiting};
 ghost use Rattle.caf_response.specs.declared.fault.IssueFault.TheVariants.{Spent};
-ghost use Rattle.caf_response.specs.Pending.{no_requests, issued, HasSpent, top_number, resolved, is_waiting, forgotten, has_number, add_waiting, AreNumbered};
+ghost use Rattle.caf_response.specs.Pending.{no_requests, issued, issued_within, HasSpent, top_number, resolved, expired, due_by, is_waiting, forgotten, has_number, add_waiting, AreNumbered};
 ghost use Rattle.caf_response.specs.Filed.{AreFiled, waiting_in, seen_as};
 
 use crate::IssueFault;
-use caf_types::{Memory, TypeIds};
+use crate::due::Due;
+use caf_types::{LAST_COUNT, Memory, TypeIds};
 use std::alloc::Global;
 use std::collections::{BTreeMap, VecDeque};
 use std::marker::Model;
-
-/// The greatest number of a request.
-const LAST_NUMBER: u64 = 1 << 63;
 
 /// How a requester waits.
 ///
@@ -21,7 +19,9 @@ const LAST_NUMBER: u64 = 1 << 63;
 /// message; multiplexed responses come between other messages.
 #[derive(Clone, Copy, Debug, PartialEq, Eq, Drop)]
 pub enum Mode {
+    /// No content and no other response is handled until the response to this request was.
     Awaited,
+    /// The response is handled when it comes.
     Multiplexed,
 }
 
@@ -36,13 +36,15 @@ pub struct Waiting {
     pub expected: TypeIds,
 }
 
-/// The own requests of an actor that wait for their response, and the next number.
+/// The own requests of an actor that wait for their response, with the due counts that some have,
+/// and the next number.
 #[derive(Debug, Drop)]
 pub struct Pending {
     next: u64,
     /// The one issued last comes first.
     awaited: VecDeque<Waiting>,
     multiplexed: BTreeMap<u64, Waiting>,
+    due: Due,
 }
 
 impl Model for Pending {
@@ -51,9 +53,9 @@ impl Model for Pending {
 
     ghost Value = { WaitingRequests };
 
-    ghost view = { λ pending. seen_as pending.next pending.awaited.items pending.multiplexed.entries };
+    ghost view = { λ pending. seen_as pending.next pending.awaited.items pending.multiplexed.entries pending.due };
 
-    ghost invariant = { λ pending. IsInForm pending.next pending.awaited.items pending.multiplexed.entries };
+    ghost invariant = { λ pending. IsInForm pending.next pending.awaited.items pending.multiplexed.entries pending.due };
 }
 
 impl Pending {
@@ -65,6 +67,7 @@ impl Pending {
             next: 1,
             awaited: VecDeque::new(alloc),
             multiplexed: BTreeMap::new(alloc),
+            due: Due::new(alloc),
         }
     }
 
@@ -78,7 +81,7 @@ impl Pending {
         ensures kept { OnErr result (self.new ≡ self.old) }
         ensures numbered { AreNumbered self.new }
     {
-        if self.next > LAST_NUMBER {
+        if self.has_spent() {
             return Err(IssueFault::Spent);
         }
         let number = self.next;
@@ -90,6 +93,49 @@ impl Pending {
         put(&mut self.awaited, &mut self.multiplexed, mode, waiting)?;
         self.next = number + 1;
         Ok(number)
+    }
+
+    /// [`Pending::issue`], and the request's time is over at that count of ticks.
+    pub fn issue_within(
+        &mut self,
+        mode: Mode,
+        tag: u32,
+        expected: TypeIds,
+        due: u64,
+    ) -> Result<u64, IssueFault>
+        ensures number { IfOk result (λ number. number ≡ self.old.next) }
+        ensures issued { OnOk result (self.new ≡ issued_within self.old mode tag expected due) }
+        ensures spent { (result ≡ Err Spent) ↔ HasSpent self.old }
+        ensures kept { OnErr result (self.new ≡ self.old) }
+        ensures numbered { AreNumbered self.new }
+    {
+        if self.has_spent() {
+            return Err(IssueFault::Spent);
+        }
+        let number = self.next;
+        let waiting = Waiting {
+            number,
+            tag,
+            expected,
+        };
+        self.due.set(due, number)?;
+        match put(&mut self.awaited, &mut self.multiplexed, mode, waiting) {
+            Ok(()) => {
+                self.next = number + 1;
+                Ok(number)
+            }
+            Err(_) => {
+                self.due.end(number);
+                Err(IssueFault::Memory)
+            }
+        }
+    }
+
+    /// Whether all numbers were given.
+    fn has_spent(&self) -> bool
+        ensures { result ≡ nat_lt LAST_COUNT self.now.next }
+    {
+        self.next > LAST_COUNT
     }
 
     /// The number of the awaited request issued last; None exactly where nothing is awaited. It
@@ -104,8 +150,8 @@ impl Pending {
         }
     }
 
-    /// Takes out the request with that number; None exactly where it isn't waiting. It takes no
-    /// memory.
+    /// Takes out the request with that number, and ends its due count; None exactly where it isn't
+    /// waiting. It takes no memory.
     pub fn resolve(&mut self, number: u64) -> Option<Waiting>
         ensures resolved { option_map (λ waiting. (waiting, self.new)) result ≡ resolved self.old number }
         ensures some { is_some result ≡ is_waiting self.old number }
@@ -114,19 +160,43 @@ impl Pending {
         ensures numbered { AreNumbered self.new }
     {
         match self.multiplexed.remove(&number) {
-            Some(waiting) => Some(waiting),
-            None => take_awaited(&mut self.awaited, number),
+            Some(waiting) => {
+                self.due.end(number);
+                Some(waiting)
+            }
+            None => match take_awaited(&mut self.awaited, number) {
+                Some(waiting) => {
+                    self.due.end(number);
+                    Some(waiting)
+                }
+                None => None,
+            },
         }
     }
 
-    /// Lets no request wait any more, as when the actor quits. The next number stays. It takes no
-    /// memory.
+    /// Takes out the request with the least due count, then the least number, where it is due by
+    /// `now`; None exactly where none is. It takes no memory.
+    pub fn expire(&mut self, now: u64) -> Option<Waiting>
+        ensures expired { option_map (λ waiting. (waiting, self.new)) result ≡ expired self.old now }
+        ensures some { is_some result ≡ is_some (due_by now self.old.due) }
+        ensures kept { IfNone result (self.new ≡ self.old) }
+        ensures numbered { AreNumbered self.new }
+    {
+        match self.due.first(now) {
+            Some(number) => self.resolve(number),
+            None => None,
+        }
+    }
+
+    /// Lets no request wait any more or be due, as when the actor quits. The next number stays. It
+    /// takes no memory.
     pub fn forget(&mut self)
         ensures forgotten { self.new ≡ forgotten self.old }
         ensures numbered { AreNumbered self.new }
     {
         self.awaited.clear();
         self.multiplexed.clear();
+        self.due.clear();
     }
 }
 
@@ -138,8 +208,8 @@ fn put(
     waiting: Waiting,
 ) -> Result<(), Memory>
     requires { AreFiled waiting.number multiplexed.old.entries }
-    ensures awaited { OnOk result (awaited.new.items ≡ (add_waiting (seen_as waiting.number awaited.old.items multiplexed.old.entries) mode waiting).awaited) }
-    ensures multiplexed { OnOk result (waiting_in multiplexed.new.entries ≡ (add_waiting (seen_as waiting.number awaited.old.items multiplexed.old.entries) mode waiting).multiplexed) }
+    ensures awaited { OnOk result (awaited.new.items ≡ (add_waiting (seen_as waiting.number awaited.old.items multiplexed.old.entries []) mode waiting).awaited) }
+    ensures multiplexed { OnOk result (waiting_in multiplexed.new.entries ≡ (add_waiting (seen_as waiting.number awaited.old.items multiplexed.old.entries []) mode waiting).multiplexed) }
     ensures filed { OnOk result (AreFiled (waiting.number + 1) multiplexed.new.entries) }
     ensures same_awaited { OnErr result (awaited.new.items ≡ awaited.old.items) }
     ensures same_multiplexed { OnErr result (multiplexed.new.entries ≡ multiplexed.old.entries) }

@@ -1,4 +1,4 @@
-use crate::{Holds, Mode, Pending, Promise};
+use crate::{Delays, Holds, IssueFault, Mode, Pending, Promise};
 use caf_message::{Body, MessageBuilder};
 use caf_types::{Mid, Priority, Sec, Seq, TypeId, TypeIds};
 use std::alloc::Global;
@@ -52,6 +52,84 @@ fn awaited_requests_form_a_stack_and_multiplexed_ones_resolve_in_any_order(
     pending.forget();
     assert_eq!(rt; resolve(&mut pending, 3), None);
     assert_eq!(rt; issue(alloc, &mut pending, Mode::Awaited, 93, 8)?, 6);
+    Ok(())
+}
+
+/// Issues a request that is due at that count.
+fn issue_within(alloc: Global, pending: &mut Pending, mode: Mode, due: u64) -> Result<u64, Fail> {
+    let number = pending.issue_within(mode, 7, one_type(alloc, 3)?, due)?;
+    Ok(number)
+}
+
+/// The number of the request that expires, if one does.
+fn expire(pending: &mut Pending, now: u64) -> Option<u64> {
+    let waiting = pending.expire(now)?;
+    Some(waiting.number)
+}
+
+#[test]
+fn requests_expire_by_due_count_then_number_and_end_once(rt: HostRuntime) -> Result<(), Fail> {
+    let alloc = rt.alloc();
+    let mut pending = Pending::new(alloc);
+    assert_eq!(rt; issue_within(alloc, &mut pending, Mode::Multiplexed, 3)?, 1);
+    assert_eq!(rt; issue_within(alloc, &mut pending, Mode::Awaited, 2)?, 2);
+    assert_eq!(rt; expire(&mut pending, 1), None);
+    assert_eq!(rt; expire(&mut pending, 3), Some(2));
+    assert_eq!(rt; expire(&mut pending, 3), Some(1));
+    assert_eq!(rt; expire(&mut pending, 3), None);
+    assert_eq!(rt; resolve(&mut pending, 1), None);
+    assert_eq!(rt; issue_within(alloc, &mut pending, Mode::Awaited, 5)?, 3);
+    assert_eq!(rt; issue_within(alloc, &mut pending, Mode::Multiplexed, 5)?, 4);
+    assert_eq!(rt; issue(alloc, &mut pending, Mode::Multiplexed, 9, 4)?, 5);
+    assert_eq!(rt; resolve(&mut pending, 3), Some((3, 7, 3)));
+    assert_eq!(rt; expire(&mut pending, u64::MAX), Some(4));
+    assert_eq!(rt; expire(&mut pending, u64::MAX), None);
+    assert_eq!(rt; resolve(&mut pending, 5), Some((5, 9, 4)));
+    assert_eq!(rt; issue_within(alloc, &mut pending, Mode::Awaited, 1)?, 6);
+    pending.forget();
+    assert_eq!(rt; expire(&mut pending, u64::MAX), None);
+    Ok(())
+}
+
+/// Place and priority of the message that is due, if there is one.
+fn next_due(delays: &mut Delays, now: u64) -> Option<(u32, Priority)> {
+    let (to, priority, _) = delays.next(now)?;
+    Some((to, priority))
+}
+
+/// Delays a message to that place.
+fn delay(alloc: Global, delays: &mut Delays, due: u64, to: u32) -> Result<(), Fail> {
+    let message = MessageBuilder::new(alloc).finish()?;
+    match delays.add(due, to, Priority::Urgent, message) {
+        Ok(()) => Ok(()),
+        Err((_, memory)) => Err(memory.into()),
+    }
+}
+
+#[test]
+fn delayed_messages_come_by_due_count_then_in_order_of_adding(rt: HostRuntime) -> Result<(), Fail> {
+    let alloc = rt.alloc();
+    let mut delays = Delays::new(alloc);
+    delay(alloc, &mut delays, 2, 4)?;
+    delay(alloc, &mut delays, 2, 3)?;
+    delay(alloc, &mut delays, 1, 5)?;
+    assert_eq!(rt; next_due(&mut delays, 0), None);
+    assert_eq!(rt; next_due(&mut delays, 1), Some((5, Priority::Urgent)));
+    assert_eq!(rt; next_due(&mut delays, 1), None);
+    assert_eq!(rt; next_due(&mut delays, 2), Some((4, Priority::Urgent)));
+    assert_eq!(rt; next_due(&mut delays, 2), Some((3, Priority::Urgent)));
+    assert_eq!(rt; next_due(&mut delays, u64::MAX), None);
+    Ok(())
+}
+
+#[test]
+fn faults_have_texts(rt: HostRuntime) -> Result<(), Fail> {
+    for (fault, text) in [
+        (IssueFault::Spent, "no request number is left"),
+        (IssueFault::Memory, "out of memory"),
+    ] {
+        assert_eq!(rt; format!(in rt.alloc(); "{fault}")?.as_str(), text);
+    }
     Ok(())
 }
 

@@ -22,11 +22,11 @@ IsFirstRepeat signatures position =
     HaveDifferingInputs (take position signatures)
     × ((s : Signature) × (slice_get signatures position ≡ Some s) × Contains (inputs (take position signatures)) s.input)
 
--- an interface has the signatures as they are; want of memory has no cause
+-- an interface has the signatures as they are; since it takes no memory, want of memory is no answer
 abbrev pub InterfaceAnswer : Result (List Signature) InterfaceFault → List Signature → Type 0
 InterfaceAnswer (Ok interface) signatures = (interface ≡ signatures) × HaveDifferingInputs signatures
 InterfaceAnswer (Err (faults.Twice position)) signatures = IsFirstRepeat signatures position
-InterfaceAnswer (Err faults.Memory) signatures = Unit {0}
+InterfaceAnswer (Err faults.Memory) signatures = ⊥
 
 -- ---- when an actor of one interface is used through another
 

@@ -12,7 +12,9 @@ use thiserror::Error;
 /// The types of content that an actor takes, and the types of its answer.
 #[derive(Debug, Drop)]
 pub struct Signature {
+    /// The types of the content.
     pub input: TypeIds,
+    /// The types of the answer.
     pub result: TypeIds,
 }
 
@@ -22,6 +24,7 @@ pub enum InterfaceFault {
     /// The least position, from 0, whose input stands at an earlier one too.
     #[error("the input at position {0} stands twice")]
     Twice(u64),
+    /// Want of memory, which [`Interface::new`] doesn't answer: it takes none.
     #[error("out of memory")]
     Memory,
 }
@@ -48,7 +51,8 @@ impl Model for Interface {
 }
 
 impl Interface {
-    /// The interface of these signatures. `Twice` comes exactly where an input stands twice.
+    /// The interface of these signatures. `Twice` comes exactly where an input stands twice, and there is no
+    /// other refusal: the call takes no memory.
     ///
     /// Each input is compared with all before it, so the time is quadratic in the number of
     /// signatures, of which an actor has a few.

@@ -1,12 +1,12 @@
-ghost use Rattle.std.specs.Prelude.{◌≡◌, ◌↔◌, IsTrue, IsErrOf, IsOkUnless, OnOk, OnErr};
+ghost use Rattle.std.specs.Prelude.{◌≡◌, ◌↔◌, IsTrue, IsErrOf, OnOk, OnErr};
 ghost use Rattle.std.specs.Option.{option_copied};
-ghost use Rattle.std.specs.String.{string_bytes};
 ghost use Rattle.std.specs.FinMap as finite;
 ghost use Rattle.caf_signature.specs.Registry.{registrations};
 ghost use Rattle.caf_signature.specs.FindAnswer.{found_for};
+ghost use Rattle.caf_signature.specs.declared.registry.RegistryFault.TheVariants as faults;
 
 use crate::{Interface, assignable};
-use caf_types::Name;
+use caf_types::{Memory, Name};
 use std::alloc::Global;
 use std::collections::BTreeMap;
 use std::marker::Model;
@@ -18,8 +18,17 @@ pub enum RegistryFault {
     /// Something stands under the name already.
     #[error("the name is known")]
     Known,
+    /// Want of memory.
     #[error("out of memory")]
     Memory,
+}
+
+impl From<Memory> for RegistryFault {
+    ghost from_gives = { λ _ fault. fault ≡ faults.Memory };
+
+    fn from(_: Memory) -> RegistryFault {
+        RegistryFault::Memory
+    }
 }
 
 /// Why no place was found.
@@ -71,10 +80,13 @@ impl Registry {
         if self.registered(name.as_str()).is_some() {
             return Err(RegistryFault::Known);
         }
-        let Ok(key) = String::from_str(self.alloc, name.as_str()) else {
-            return Err(RegistryFault::Memory);
-        };
-        insert(&mut self.entries, key, (place, interface))
+        insert(
+            self.alloc,
+            &mut self.entries,
+            name.as_str(),
+            (place, interface),
+        )?;
+        Ok(())
     }
 
     /// The place under the name. `Unknown` comes exactly where the name is absent, and `Interface`
@@ -102,17 +114,16 @@ impl Registry {
 }
 
 fn insert(
+    alloc: Global,
     entries: &mut BTreeMap<String, (u32, Interface)>,
-    key: String,
+    name: &str,
     registered: (u32, Interface),
-) -> Result<(), RegistryFault>
+) -> Result<(), Memory>
     ensures added { let old = registrations entries.old.entries in
-        OnOk result (registrations entries.new.entries ≡ finite.insert old (string_bytes key) registered) }
+        OnOk result (registrations entries.new.entries ≡ finite.insert old name.now registered) }
     ensures kept { OnErr result (entries.new.entries ≡ entries.old.entries) }
-    ensures memory { IsOkUnless result RegistryFault.Memory }
 {
-    match entries.insert(key, registered) {
-        Ok(_) => Ok(()),
-        Err(_) => Err(RegistryFault::Memory),
-    }
+    let key = String::from_str(alloc, name)?;
+    entries.insert(key, registered)?;
+    Ok(())
 }

@@ -88,13 +88,26 @@ fn a_name_is_registered_once(rt: HostRuntime) -> Result<(), Fail> {
 #[test]
 fn faults_are_told_in_words(rt: HostRuntime) -> Result<(), Fail> {
     let alloc = rt.alloc();
-    let twice = format!(in alloc; "{}", InterfaceFault::Twice(1))?;
-    assert_eq!(rt; twice.as_str(), "the input at position 1 stands twice");
-    let known = format!(in alloc; "{}", RegistryFault::Known)?;
-    assert_eq!(rt; known.as_str(), "the name is known");
-    let unknown = format!(in alloc; "{}", FindFault::Unknown)?;
-    assert_eq!(rt; unknown.as_str(), "the name is unknown");
-    let interface = format!(in alloc; "{}", FindFault::Interface)?;
-    assert_eq!(rt; interface.as_str(), "the interface isn't the wanted one");
+    for (fault, text) in [
+        (
+            InterfaceFault::Twice(1),
+            "the input at position 1 stands twice",
+        ),
+        (InterfaceFault::Memory, "out of memory"),
+    ] {
+        assert_eq!(rt; fault.to_string(alloc)?.as_str(), text);
+    }
+    for (fault, text) in [
+        (RegistryFault::Known, "the name is known"),
+        (RegistryFault::Memory, "out of memory"),
+    ] {
+        assert_eq!(rt; fault.to_string(alloc)?.as_str(), text);
+    }
+    for (fault, text) in [
+        (FindFault::Unknown, "the name is unknown"),
+        (FindFault::Interface, "the interface isn't the wanted one"),
+    ] {
+        assert_eq!(rt; fault.to_string(alloc)?.as_str(), text);
+    }
     Ok(())
 }

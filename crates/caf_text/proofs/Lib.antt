@@ -1,10 +1,10 @@
 pub mod LoopLemmas
-pub mod Stops
-pub mod Numbers
-pub mod Lists
-pub mod Readers
-pub mod Digits
-pub mod Utf8
+pub mod StopLemmas
+pub mod NumberLemmas
+pub mod ListLemmas
+pub mod ReaderLemmas
+pub mod DigitLemmas
+pub mod Utf8Lemmas
 pub mod QuotedLemmas
-pub mod Again
+pub mod AgainLemmas
 pub mod WholeLemmas

@@ -7,11 +7,11 @@ use Rattle.caf_types.specs.declared.shape.Shape.TheFolds.{fold_out-Field}
 use Rattle.caf_types.specs.declared.shape.Field.{Field}
 use Rattle.caf_words.specs.Datum.{Datum, Data, no_data, more, front_of, data_of}
 use Rattle.caf_words.specs.Reading.{Got, ◌>>=◌, then_more}
-use Rattle.caf_text.specs.Answer.{Fails}
+use Rattle.caf_words.specs.Answer.{Fails}
 use Rattle.caf_text.specs.TextForm.{comma}
 use Rattle.caf_text.specs.TextReading.{literal, separator, after_value, values, reading, field_at, fields_at}
-use Rattle.caf_text.specs.declared.stop.Stop.{Stop}
-use Rattle.caf_text.specs.declared.stop.Stop.TheVariants as stops
+use Rattle.caf_words.specs.declared.stop.Stop.{Stop}
+use Rattle.caf_words.specs.declared.stop.Stop.TheVariants as stops
 
 front_more : (front : List Datum) (d : Datum) (ds : Data) → front_of (front ++ d ∷ []) ds ≡ front_of front (more d ds)
 front_more [] d ds = refl

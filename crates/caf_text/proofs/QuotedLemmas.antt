@@ -12,9 +12,9 @@ use Rattle.caf_text.specs.TextReading.{move, unquoted, digit_value, pair_value, 
 use Rattle.caf_text.specs.declared.quoted.Mark.{Mark}
 use Rattle.caf_text.specs.declared.quoted.Mark.TheVariants as marks
 use Rattle.caf_text.specs.declared.quoted.Move.TheVariants as moves
-use Rattle.caf_text.proofs.Digits.{digit_is, pair_is}
-use Rattle.caf_text.proofs.Utf8.{AsciiFirst, front_valid, after_ascii, low_valid, plain_escape, escaped_is, unescaped}
-use Rattle.caf_text.proofs.Stops.{ends, Stops, heads, no_cons, as_stops, literal_then}
+use Rattle.caf_text.proofs.DigitLemmas.{digit_is, pair_is}
+use Rattle.caf_text.proofs.Utf8Lemmas.{AsciiFirst, front_valid, after_ascii, low_valid, plain_escape, escaped_is, unescaped}
+use Rattle.caf_text.proofs.StopLemmas.{ends, Stops, heads, no_cons, as_stops, literal_then}
 
 -- ---- any content
 

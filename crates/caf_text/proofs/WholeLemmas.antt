@@ -6,10 +6,10 @@ use Rattle.caf_words.specs.Reading.{Got, ◌>>=◌}
 use Rattle.caf_text.specs.Front.{IsFront, IsLongestFront}
 use Rattle.caf_text.specs.TextForm.{text_form, IsValue, HasText}
 use Rattle.caf_text.specs.TextReading.{reading, nothing_left, untext}
-use Rattle.caf_text.proofs.Again.{reading_again}
-use Rattle.caf_text.proofs.Numbers.{NoDigit}
-use Rattle.caf_text.proofs.Readers.{reading_stops}
-use Rattle.caf_text.proofs.Stops.{ends, Good, StopsAt, no_cons}
+use Rattle.caf_text.proofs.AgainLemmas.{reading_again}
+use Rattle.caf_text.proofs.NumberLemmas.{NoDigit}
+use Rattle.caf_text.proofs.ReaderLemmas.{reading_stops}
+use Rattle.caf_text.proofs.StopLemmas.{ends, Good, StopsAt, no_cons}
 
 nothing_behind : NoDigit []
 nothing_behind c r e = absurd (no_cons e)

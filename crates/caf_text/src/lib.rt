@@ -8,18 +8,18 @@
 //! front of some text form of the shape.
 #![tactic(auto)]
 
-mod law;
+mod laws;
 mod literal;
 mod number;
 mod quoted;
 mod reading;
-mod stop;
+mod text_fault;
 mod whole;
 mod writing;
 
-pub use law::text_is_exact;
+pub use laws::text_is_exact;
 pub use quoted::pair_value;
-pub use stop::TextFault;
+pub use text_fault::TextFault;
 pub use whole::read_text;
 pub use writing::{
     add_bytes, add_flag, add_place, add_plain, add_quoted, add_signed, add_unsigned,

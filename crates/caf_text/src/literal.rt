@@ -1,8 +1,8 @@
 ghost use Rattle.std.specs.Prelude.{◌≡◌, Ok};
-ghost use Rattle.caf_text.specs.Answer.{Gives};
+ghost use Rattle.caf_words.specs.Answer.{Gives};
 ghost use Rattle.caf_text.specs.TextReading as texts;
 
-use crate::stop::Stop;
+use caf_words::Stop;
 
 /// What stands behind these bytes.
 pub(crate) fn literal<'a>(word: &[u8], bytes: &'a [u8]) -> Result<&'a [u8], Stop>

@@ -1,8 +1,8 @@
 ghost use Rattle.std.specs.Prelude.{◌≡◌, ◌≤◌, ◌-◌, ◌^◌, Ok, IfOk, negsuc};
-ghost use Rattle.caf_text.specs.Answer.{Gives};
+ghost use Rattle.caf_words.specs.Answer.{Gives};
 ghost use Rattle.caf_text.specs.TextReading as texts;
 
-use crate::stop::Stop;
+use caf_words::Stop;
 
 pub(crate) fn is_digit(byte: u8) -> bool
     ensures { result ≡ texts.is_digit byte }

@@ -1,10 +1,10 @@
 ghost use Rattle.std.specs.Prelude.{◌≡◌, [], ◌∷◌, ◌++◌, OnOk};
-ghost use Rattle.caf_text.specs.Answer.{Gives};
+ghost use Rattle.caf_words.specs.Answer.{Gives};
 ghost use Rattle.caf_text.specs.TextForm as forms;
 ghost use Rattle.caf_text.specs.TextReading as texts;
 
-use crate::stop::Stop;
 use caf_types::Memory;
+use caf_words::Stop;
 use std::alloc::Global;
 
 /// What was read last, behind an opening quote.
@@ -166,10 +166,8 @@ fn next_move(mark: Mark, byte: u8) -> Move
 fn add_byte(content: &mut Vec<u8>, byte: u8) -> Result<(), Memory>
     ensures { OnOk result (content.new.items ≡ content.old.items ++ byte ∷ []) }
 {
-    match content.push(byte) {
-        Ok(()) => Ok(()),
-        Err(_) => Err(Memory),
-    }
+    content.push(byte)?;
+    Ok(())
 }
 
 /// The content up to the closing quote, and what stands behind it.

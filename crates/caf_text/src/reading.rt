@@ -2,16 +2,15 @@ ghost use Rattle.std.specs.Prelude.{[], length, map};
 ghost use Rattle.caf_types.specs.Shape.{tree, parts};
 ghost use Rattle.caf_words.specs.Datum.{data_of, a_text, some_bytes, an_object};
 ghost use Rattle.caf_words.specs.Value.{datum};
-ghost use Rattle.caf_text.specs.Answer.{Gives};
+ghost use Rattle.caf_words.specs.Answer.{Gives};
 ghost use Rattle.caf_text.specs.TextReading as texts;
 ghost use Rattle.caf_text.specs.TextReading.{reading, fields_at as reading_fields};
 
 use crate::literal::literal;
 use crate::number::{below_zero, nonzero, number};
 use crate::quoted::{Mark, unquoted};
-use crate::stop::Stop;
 use caf_types::{Field, Items, Letters, Seq, Shape};
-use caf_words::Value;
+use caf_words::{Stop, Value};
 use std::alloc::Global;
 
 fn flag_at(bytes: &[u8]) -> Result<(Value, &[u8]), Stop>

@@ -1,15 +1,15 @@
 ghost use Rattle.std.specs.Prelude.{◌≡◌, ◌-◌, IfOk, IfErr};
 ghost use Rattle.caf_types.specs.Shape.{tree};
 ghost use Rattle.caf_words.specs.Value.{datum};
-ghost use Rattle.caf_text.specs.Answer.{Gives, IsNoForm};
+ghost use Rattle.caf_words.specs.Answer.{Gives};
+ghost use Rattle.caf_text.specs.Answer.{IsNoForm};
 ghost use Rattle.caf_text.specs.TextForm.{HasText};
 ghost use Rattle.caf_text.specs.TextReading.{untext};
 
 use crate::TextFault;
 use crate::reading::value_at;
-use crate::stop::Stop;
 use caf_types::Shape;
-use caf_words::Value;
+use caf_words::{Stop, Value};
 use std::alloc::Global;
 
 /// The value of the shape whose text form this is.

@@ -1,4 +1,4 @@
-ghost use Rattle.std.specs.Prelude.{◌≡◌, ◌<◌, ◌++◌, flat_map, slice_index, string_bytes, OnOk, IfOk};
+ghost use Rattle.std.specs.Prelude.{◌≡◌, ◌<◌, ◌++◌, flat_map, slice_index, string_bytes, OnOk, OnErr, IfOk};
 ghost use Rattle.hex.specs.Hex.{lower_digits};
 ghost use Rattle.caf_text.specs.TextForm.{scalar_text, escape};
 ghost use Rattle.caf_words.specs.Datum.{a_flag, a_text, some_bytes, an_unsigned, a_signed, a_place};
@@ -10,17 +10,17 @@ use std::alloc::Global;
 
 /// Adds a piece as it stands.
 pub fn add_plain(text: &mut String, piece: &str) -> Result<(), Memory>
-    ensures { OnOk result (string_bytes text.new ≡ string_bytes text.old ++ piece.now) }
+    ensures added { OnOk result (string_bytes text.new ≡ string_bytes text.old ++ piece.now) }
+    ensures kept { OnErr result (string_bytes text.new ≡ string_bytes text.old) }
 {
-    match text.push_str(piece) {
-        Ok(()) => Ok(()),
-        Err(_) => Err(Memory),
-    }
+    text.push_str(piece)?;
+    Ok(())
 }
 
 /// Adds the text form of a flag.
 pub fn add_flag(text: &mut String, flag: bool) -> Result<(), Memory>
-    ensures { OnOk result (string_bytes text.new ≡ string_bytes text.old ++ scalar_text (a_flag flag)) }
+    ensures added { OnOk result (string_bytes text.new ≡ string_bytes text.old ++ scalar_text (a_flag flag)) }
+    ensures kept { OnErr result (string_bytes text.new ≡ string_bytes text.old) }
 {
     if flag {
         add_plain(text, "true")
@@ -31,7 +31,8 @@ pub fn add_flag(text: &mut String, flag: bool) -> Result<(), Memory>
 
 /// Adds the text form of a number.
 pub fn add_unsigned(text: &mut String, number: u64) -> Result<(), Memory>
-    ensures { OnOk result (string_bytes text.new ≡ string_bytes text.old ++ scalar_text (an_unsigned number)) }
+    ensures added { OnOk result (string_bytes text.new ≡ string_bytes text.old ++ scalar_text (an_unsigned number)) }
+    ensures kept { OnErr result (string_bytes text.new ≡ string_bytes text.old) }
 {
     let mut buffer = Buffer::new();
     add_plain(text, buffer.format(number))
@@ -39,7 +40,8 @@ pub fn add_unsigned(text: &mut String, number: u64) -> Result<(), Memory>
 
 /// Adds the text form of a number with its sign.
 pub fn add_signed(text: &mut String, number: i64) -> Result<(), Memory>
-    ensures { OnOk result (string_bytes text.new ≡ string_bytes text.old ++ scalar_text (a_signed number)) }
+    ensures added { OnOk result (string_bytes text.new ≡ string_bytes text.old ++ scalar_text (a_signed number)) }
+    ensures kept { OnErr result (string_bytes text.new ≡ string_bytes text.old) }
 {
     let mut buffer = Buffer::new();
     add_plain(text, buffer.format(number))
@@ -47,11 +49,11 @@ pub fn add_signed(text: &mut String, number: i64) -> Result<(), Memory>
 
 /// Adds the text form of a place.
 pub fn add_place(text: &mut String, place: u32) -> Result<(), Memory>
-    ensures { OnOk result (string_bytes text.new ≡ string_bytes text.old ++ scalar_text (a_place place)) }
+    ensures added { OnOk result (string_bytes text.new ≡ string_bytes text.old ++ scalar_text (a_place place)) }
+    ensures kept { OnErr result (string_bytes text.new ≡ string_bytes text.old) }
 {
-    add_plain(text, "@")?;
-    add_unsigned(text, place as u64)?;
-    Ok(())
+    let piece = format!(in *text.allocator(); "@{place}")?;
+    add_plain(text, piece.as_str())
 }
 
 fn digit(value: u8) -> u8
@@ -64,10 +66,8 @@ fn digit(value: u8) -> u8
 fn add_bytes_to(escaped: &mut Vec<u8>, bytes: &[u8]) -> Result<(), Memory>
     ensures { OnOk result (escaped.new.items ≡ escaped.old.items ++ bytes.now) }
 {
-    match escaped.extend_from_slice(bytes) {
-        Ok(()) => Ok(()),
-        Err(_) => Err(Memory),
-    }
+    escaped.extend_from_slice(bytes)?;
+    Ok(())
 }
 
 fn add_escaped(escaped: &mut Vec<u8>, byte: u8) -> Result<(), Memory>
@@ -107,23 +107,21 @@ fn with_escapes(alloc: Global, content: &str) -> Result<String, Memory>
 }
 
 /// Adds the text form of a text, in quotes.
-pub fn add_quoted(text: &mut String, alloc: Global, content: &str) -> Result<(), Memory>
-    ensures { OnOk result (string_bytes text.new ≡ string_bytes text.old ++ scalar_text (a_text content.now)) }
+pub fn add_quoted(alloc: Global, text: &mut String, content: &str) -> Result<(), Memory>
+    ensures added { OnOk result (string_bytes text.new ≡ string_bytes text.old ++ scalar_text (a_text content.now)) }
+    ensures kept { OnErr result (string_bytes text.new ≡ string_bytes text.old) }
 {
     let escaped = with_escapes(alloc, content)?;
-    add_plain(text, "\"")?;
-    add_plain(text, escaped.as_str())?;
-    add_plain(text, "\"")?;
-    Ok(())
+    let piece = format!(in alloc; "\"{escaped}\"")?;
+    add_plain(text, piece.as_str())
 }
 
 /// Adds the text form of bytes.
-pub fn add_bytes(text: &mut String, alloc: Global, content: &[u8]) -> Result<(), Memory>
-    ensures { OnOk result (string_bytes text.new ≡ string_bytes text.old ++ scalar_text (some_bytes content.now)) }
+pub fn add_bytes(alloc: Global, text: &mut String, content: &[u8]) -> Result<(), Memory>
+    ensures added { OnOk result (string_bytes text.new ≡ string_bytes text.old ++ scalar_text (some_bytes content.now)) }
+    ensures kept { OnErr result (string_bytes text.new ≡ string_bytes text.old) }
 {
     let digits = hex::encode(alloc, content)?;
-    add_plain(text, "x\"")?;
-    add_plain(text, digits.as_str())?;
-    add_plain(text, "\"")?;
-    Ok(())
+    let piece = format!(in alloc; "x\"{digits}\"")?;
+    add_plain(text, piece.as_str())
 }

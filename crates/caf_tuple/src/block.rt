@@ -26,4 +26,5 @@ impl TableRule<(), View, Vec<u64>> for Counted {
     ghost first = { λ words. first_view words.items };
 }
 
+/// A block: its words under the rule.
 pub type Block = Table<(), View, Vec<u64>, Counted, Global>;

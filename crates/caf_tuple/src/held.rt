@@ -9,14 +9,21 @@ use atomic_table::Seat;
 /// The seat of one reference, by which it makes its atomic steps.
 ///
 /// A seat may be let go at any time, and its reference would then stay counted for ever. This
-/// wrapper is not `Drop`: it has to end by [`Held::end`], which only a released reference may call.
-pub struct Held {
-    pub seat: Seat<(), View>,
+/// wrapper is not `Drop` and no other module sees into it: it ends by [`Held::release`] alone.
+pub(crate) struct Held {
+    seat: Seat<(), View>,
 }
 
 impl Held {
+    /// The holder of a seat with one reference.
+    pub(crate) fn of(seat: Seat<(), View>) -> Held
+        ensures { result.seat ≡ seat }
+    {
+        Held { seat }
+    }
+
     /// A second reference to the block: one `fetch_add` of its count, and the seat is split.
-    pub fn retain(&mut self, block: &Block) -> Held
+    pub(crate) fn retain(&mut self, block: &Block) -> Held
         requires refers { IsReference block.now.shared.table_id self.old.seat }
         requires room { 1 ≤ self.old.seat.me.0.seen.room }
         ensures refers { IsReference block.now.shared.table_id self.new.seat }
@@ -26,11 +33,11 @@ impl Held {
     {
         block.shared.fetch_add::<Retain>(&mut self.seat, 0, 1);
         let seat = block.shared.split_seat::<Part>(&mut self.seat);
-        Held { seat }
+        Held::of(seat)
     }
 
     /// One load of the count.
-    pub fn test(&mut self, block: &Block) -> u64
+    pub(crate) fn test(&mut self, block: &Block) -> u64
         requires { IsReference block.now.shared.table_id self.old.seat }
         ensures refers { IsReference block.now.shared.table_id self.new.seat }
         ensures step { self.new.seat.me.0.seen ≡ tested result self.old.seat.me.0.seen }
@@ -41,7 +48,7 @@ impl Held {
     }
 
     /// One load of the payload's word at the index `i`.
-    pub fn word(&mut self, block: &Block, i: usize) -> u64
+    pub(crate) fn word(&mut self, block: &Block, i: usize) -> u64
         requires refers { IsReference block.now.shared.table_id self.old.seat }
         requires within { i < length self.old.seat.me.0.seen.content }
         ensures refers { IsReference block.now.shared.table_id self.new.seat }
@@ -52,7 +59,7 @@ impl Held {
     }
 
     /// One store of the payload's word at the index `i`.
-    pub fn set(&mut self, block: &Block, i: usize, word: u64)
+    pub(crate) fn set(&mut self, block: &Block, i: usize, word: u64)
         requires refers { IsReference block.now.shared.table_id self.old.seat }
         requires within { i < length self.old.seat.me.0.seen.content }
         requires sole { self.old.seat.me.0.seen.sole ≡ true }
@@ -63,7 +70,7 @@ impl Held {
     }
 
     /// The reference is given up: one `fetch_sub` of the count.
-    pub fn release(mut self, block: &Block)
+    pub(crate) fn release(mut self, block: &Block)
         requires { IsReference block.now.shared.table_id self.seat }
     {
         block.shared.fetch_sub::<Release>(&mut self.seat, 0, 1);
@@ -71,7 +78,7 @@ impl Held {
     }
 
     /// A seat that has no reference is let go.
-    pub fn end(self)
+    fn end(self)
         requires { self.seat.me.0.refs ≡ 0 }
     {
         let Held { seat: _ } = self;

@@ -24,7 +24,7 @@ fn a_shared_reference_is_copied_and_a_sole_one_kept(rt: HostRuntime) -> Result<(
     assert_eq!(rt; (first.word(0), first.word(1), first.test()), (9, 8, 1));
     assert_eq!(rt; (second.word(0), third.word(0), before.word(0)), (7, 7, 7));
     before.release();
-    second.release();
+    drop(second);
     assert_eq!(rt; third.test(), 1);
     assert!(rt; matches!(third.own(alloc)?, Owned::Kept));
     assert_eq!(rt; (third.len(), third.word(0), third.word(1)), (2, 7, 8));

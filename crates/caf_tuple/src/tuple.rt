@@ -91,9 +91,7 @@ impl Tuple {
         ensures old { OnOk result (self.new ≡ retained self.old) }
         ensures memory { OnErr result (self.new ≡ self.old) }
     {
-        let Ok(block) = Arc::try_clone(&self.block) else {
-            return Err(Memory);
-        };
+        let block = Arc::try_clone(&self.block)?;
         let held = self.held.retain(&block);
         let room = self.room / 2048;
         self.room -= 1 + room;
@@ -202,12 +200,10 @@ fn of_words(alloc: Global, laid: Vec<u64>) -> Result<Tuple, Memory>
     ensures { IfOk result (λ tuple. tuple ≡ fresh (drop 1 laid.items)) }
 {
     let (table, seat) = Table::<(), _, _, Counted, _>::of_words(alloc, laid.as_slice(), &laid)?;
-    let Ok(block) = Arc::new(alloc, table) else {
-        return Err(Memory);
-    };
+    let block = Arc::new(alloc, table)?;
     Ok(Tuple {
         block,
-        held: Held { seat },
+        held: Held::of(seat),
         room: FULL_ROOM,
     })
 }

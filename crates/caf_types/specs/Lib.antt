@@ -1,4 +1,3 @@
-pub mod ShapeTree
 pub mod Limits
 pub mod Listing
 pub mod Name
@@ -8,5 +7,6 @@ pub mod Postings
 pub mod Reason
 pub mod Sec
 pub mod Shape
+pub mod ShapeTree
 pub mod Table
 pub mod TypeTable

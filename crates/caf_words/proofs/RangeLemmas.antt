@@ -207,23 +207,6 @@ mutual
 
 -- ---- what holds, holds of an Ok
 
-pub on_ok : {A E : Type 0} (r : Result A E) (b : Bool) → b ≡ true → OnOk r (b ≡ true)
-on_ok (Ok x) b h = h
-on_ok (Err e) b h = tt
-
 pub on_ok_both : {A E : Type 0} (r : Result A E) (a b : Bool) → OnOk r (a ≡ true) → b ≡ true → OnOk r ((a && b) ≡ true)
 on_ok_both (Ok x) a b p q = and_true p q
 on_ok_both (Err e) a b p q = tt
-
--- ---- a list of one unit
-
-none_is : (ds : Data) → is_none ds ≡ true → no_data ≡ ds
-none_is no_data e = refl
-none_is (more d ds) e = absurd cc
-
-pub one_unit : (ds : Data) → on_first is_unit is_none ds ≡ true → more a_unit no_data ≡ ds
-one_unit no_data e = absurd cc
-one_unit (more d ds) e =
-    let p = both (is_unit d) (is_none ds) e in
-    let q : a_unit ≡ d = sym (unit_is d p.0) in
-    rw (← q) (ap (more a_unit) (none_is ds p.1))

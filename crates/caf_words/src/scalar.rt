@@ -16,10 +16,8 @@ pub fn write_word(words: &mut Vec<u64>, word: u64) -> Result<(), Memory>
     ensures in_range { OnOk result (word < 2 ^ 64) }
     ensures kept { OnErr result (words.new.items ≡ words.old.items) }
 {
-    match words.push(word) {
-        Ok(()) => Ok(()),
-        Err(_) => Err(Memory),
-    }
+    words.push(word)?;
+    Ok(())
 }
 
 /// Adds the spelling of Unit's one value. After want of memory the words are as before.

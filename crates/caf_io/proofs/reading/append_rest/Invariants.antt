@@ -10,7 +10,7 @@ invariant-loop g l =
     (λ file. StartsWith file l.initial.bytes.items → StartsWith file l.bytes.items))
     × (vec_len l.bytes ≤ l.limit)
     × (g.F.Files.told l.files ≡ g.F.Files.told l.initial.files)
-    × ((other : List ℕ) → g.F.Files.faults l.initial.files other ≤ g.F.Files.faults l.files other)
+    × ((other : List ℕ) → g.F.Files.faults l.files other ≡ g.F.Files.faults l.initial.files other)
 
 -- each turn but the last reads a byte at least
 abbrev pub decreases-loop : goal.decreases-loop

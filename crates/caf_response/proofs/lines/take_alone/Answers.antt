@@ -4,11 +4,11 @@ use Rattle.caf_response.proofs.LineLemmas.{alone-taken, filed-remove, taken-none
 use Rattle.caf_response.proofs.lines.take_alone.Goals as goal
 
 pub returns-in-Some-clause-taken : goal.returns-in-Some-clause-taken
-returns-in-Some-clause-taken c =
-    alone-taken c.args.key c.args.lines.now.entries _ c.in-Some.line c.into_only.result c.requires.filed (sym c.in-Some.ensures.value) c.requires.alone c.in-Some.ensures.entries c.into_only.ensures
+returns-in-Some-clause-taken g c =
+    alone-taken g.T.Lined.key c.args.key c.args.lines.now.entries _ c.in-Some.line c.into_only.result c.requires.filed (sym c.in-Some.ensures.value) c.requires.alone c.in-Some.ensures.entries c.into_only.ensures
 
 pub returns-in-Some-clause-filed : goal.returns-in-Some-clause-filed
-returns-in-Some-clause-filed c = subst AreFiled (sym c.remove.ensures.entries) (filed-remove _ c.args.lines.now.entries c.requires.filed)
+returns-in-Some-clause-filed g c = subst (AreFiled g.T.Lined.key) (sym c.remove.ensures.entries) (filed-remove g.T.Lined.key _ c.args.lines.now.entries c.requires.filed)
 
 pub returns-in-None-clause-taken : goal.returns-in-None-clause-taken
-returns-in-None-clause-taken c = sym (taken-none c.args.key c.args.lines.now.entries c.requires.filed (sym c.in-None.ensures.value))
+returns-in-None-clause-taken g c = sym (taken-none g.T.Lined.key c.args.key c.args.lines.now.entries c.requires.filed (sym c.in-None.ensures.value))

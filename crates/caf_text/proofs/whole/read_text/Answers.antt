@@ -1,7 +1,7 @@
 use Rattle.std.proofs.Common.{◌≡◌, ◌-◌, ◌∙◌, Ok, ap, length, subst}
 use Rattle.caf_types.specs.Shape.{tree}
 use Rattle.caf_words.specs.Value.{datum}
-use Rattle.caf_text.specs.Answer.{Fails}
+use Rattle.caf_words.specs.Answer.{Fails}
 use Rattle.caf_text.specs.TextReading.{untext}
 use Rattle.caf_text.proofs.WholeLemmas.{has_text, longest_front}
 use Rattle.caf_text.proofs.whole.read_text.Goals as goal

@@ -1,6 +1,6 @@
 use Rattle.std.proofs.Common.{[], ◌++◌, ◌∙◌, ap, sym, subst, flat_map, true≢false, IsUtf8}
 use Rattle.caf_text.specs.TextForm.{escape}
-use Rattle.caf_text.proofs.Utf8.{escaped_valid}
+use Rattle.caf_text.proofs.Utf8Lemmas.{escaped_valid}
 use Rattle.caf_text.proofs.writing.with_escapes.Goals as goal
 
 pub unreachable-requires : goal.unreachable-requires

@@ -10,7 +10,7 @@ returns-then-missing-gt0 c =
     let fs = frames_of c.pop.new.self.items in
     let t = string_bytes c.loop-part.self.text in
     ap (λ gs. state gs (string_bytes c.add_plain.new.text)) c.in_ok-open_part-in-List.ensures
-    ∙ ap (state (in_list (c.in-List.missing - 1) ∷ fs)) c.in_ok-add_plain-in-List.ensures
+    ∙ ap (state (in_list (c.in-List.missing - 1) ∷ fs)) c.in_ok-add_plain-in-List.ensures.added
     ∙ sym (given_open c.in-List.missing in_list 93 fs t (give fs) (omega (arith, c.if-missing-gt0.true)))
     ∙ ap (λ p. give (frame_of p ∷ fs) t) (sym c.in-List.is)
     ∙ into_last c.loop-part.self.parts.items c.pop.new.self.items c.in-Some.part t _ c.in-Some.ensures.items c.loop-part.invariant
@@ -20,7 +20,7 @@ returns-then-missing-gt0-2 c =
     let fs = frames_of c.pop.new.self.items in
     let t = string_bytes c.loop-part.self.text in
     ap (λ gs. state gs (string_bytes c.add_plain-then-missing-gt0-2.new.text)) c.in_ok-open_part-in-Object.ensures
-    ∙ ap (state (in_object (c.in-Object.missing - 1) ∷ fs)) c.in_ok-add_plain-in-Object.ensures
+    ∙ ap (state (in_object (c.in-Object.missing - 1) ∷ fs)) c.in_ok-add_plain-in-Object.ensures.added
     ∙ sym (given_open c.in-Object.missing in_object 125 fs t (give fs) (omega (arith, c.if-missing-gt0-2.true)))
     ∙ ap (λ p. give (frame_of p ∷ fs) t) (sym c.in-Object.is)
     ∙ into_last c.loop-part.self.parts.items c.pop.new.self.items c.in-Some.part t _ c.in-Some.ensures.items c.loop-part.invariant
@@ -29,7 +29,7 @@ pub loop-part-preserved-in-Continue-branch-3 : goal.loop-part-preserved-in-Conti
 loop-part-preserved-in-Continue-branch-3 c =
     let fs = frames_of c.pop.new.self.items in
     let t = string_bytes c.loop-part.self.text in
-    ap (give fs) c.in_ok-add_plain-in-List-2.ensures
+    ap (give fs) c.in_ok-add_plain-in-List-2.ensures.added
     ∙ sym (given_whole c.in-List.missing in_list 93 fs t (give fs) (omega (arith, c.if-missing-gt0.false)))
     ∙ ap (λ p. give (frame_of p ∷ fs) t) (sym c.in-List.is)
     ∙ into_last c.loop-part.self.parts.items c.pop.new.self.items c.in-Some.part t _ c.in-Some.ensures.items c.loop-part.invariant
@@ -38,7 +38,7 @@ pub loop-part-preserved : goal.loop-part-preserved
 loop-part-preserved c =
     let fs = frames_of c.pop.new.self.items in
     let t = string_bytes c.loop-part.self.text in
-    ap (give fs) c.in_ok-add_plain-in-Object-2.ensures
+    ap (give fs) c.in_ok-add_plain-in-Object-2.ensures.added
     ∙ sym (given_whole c.in-Object.missing in_object 125 fs t (give fs) (omega (arith, c.if-missing-gt0-2.false)))
     ∙ ap (λ p. give (frame_of p ∷ fs) t) (sym c.in-Object.is)
     ∙ into_last c.loop-part.self.parts.items c.pop.new.self.items c.in-Some.part t _ c.in-Some.ensures.items c.loop-part.invariant
