@@ -1,19 +1,15 @@
-ghost use Rattle.std.specs.Prelude.{◌≡◌, [], ◌∷◌, codes, map, ◌<◌, Some, IfOk, OnOk, refl};
-ghost use Rattle.caf_types.specs.ShapeTree.{unit, flag, unsigned, signed, text, bytes, place, list, object, no_parts, part};
+ghost use Rattle.std.specs.Prelude.{◌≡◌, [], ◌∷◌, ℕ, codes, Some, IfOk, refl};
+ghost use Rattle.caf_types.specs.ShapeTree.{unsigned, text, object, no_parts, part};
 ghost use Rattle.caf_types.specs.Table.{shape_at, with_block, built_in, named};
 ghost use Rattle.caf_types.specs.TypeTable.{seen};
-ghost use Rattle.caf_words.specs.Datum.{a_unit, a_flag, an_unsigned, a_signed, a_text, some_bytes, a_place, a_list, an_object, more, no_data, data_of};
-ghost use Rattle.caf_events.specs.Event as events;
-ghost use Rattle.caf_words.specs.Fitting.{both_hold, list_fits};
-ghost use Rattle.std.proofs.Common.{lt-ltb};
-ghost use Rattle.caf_events.specs.Tells.{Tells};
+ghost use Rattle.caf_words.specs.Datum.{an_unsigned, a_text, an_object, more, no_data};
 
 use crate::{
     Inspect, Json, JsonLoader, Load, LoadFault, Save, WordLoader, from_json, from_text, from_words,
-    load_list, save_list, to_json, to_text, to_words,
+    to_json, to_text, to_words,
 };
 use caf_events::{load_fields, one_type, save_fields};
-use caf_types::{Letters, Memory, Octets, Seq, TypeId, TypeTable, type_block};
+use caf_types::{Letters, Memory, TypeId, TypeTable, type_block};
 use std::alloc::Global;
 use std::test::Fail;
 
@@ -47,7 +43,6 @@ impl Inspect for Summary {
         TypeId(200)
     }
 
-    #[tactic(auto, using(caf_events::proofs::TellingLemmas::tells_cons))]
     fn save<S: Save>(&self, saver: &mut S) -> Result<(), Memory> {
         summary_fields!(save_fields, self, saver)
     }
@@ -102,8 +97,8 @@ impl Inspect for Level {
 fn declared_table(alloc: Global) -> Result<TypeTable, Fail>
     ensures {
         IfOk result (λ t. seen t ≡ with_block built_in (codes "demo") 200 (named (codes "summary")
-            (object (part (codes "words") unsigned (part (codes "postings") unsigned (part (codes "name") text no_parts))))
-            ∷ []))
+        (object (part (codes "words") unsigned (part (codes "postings") unsigned (part (codes "name") text no_parts))))
+        ∷ []))
     }
 {
     let mut table = TypeTable::new(alloc)?;
@@ -115,7 +110,7 @@ fn declared_table(alloc: Global) -> Result<TypeTable, Fail>
 fn demo_table(alloc: Global) -> Result<TypeTable, Fail>
     ensures {
         IfOk result (λ t. shape_at (seen t) 200 ≡ Some
-            (object (part (codes "words") unsigned (part (codes "postings") unsigned (part (codes "name") text no_parts)))))
+        (object (part (codes "words") unsigned (part (codes "postings") unsigned (part (codes "name") text no_parts)))))
     }
 {
     let table = declared_table(alloc)?;
@@ -282,245 +277,5 @@ fn json_of_each_kind_of_shape_is_read(rt: HostRuntime) -> Result<(), Fail> {
         let found = json_path(alloc, &table, id, text)?;
         assert!(rt; found.is_none(), "at {text}");
     }
-    Ok(())
-}
-
-#[derive(Drop)]
-struct Line {
-    word: Letters,
-    number: u64,
-}
-
-impl Inspect for Line {
-    ghost shape = { object (part (codes "word") text (part (codes "line") unsigned no_parts)) };
-
-    ghost means = { λ it. an_object (more (a_text it.word) (more (an_unsigned it.number) no_data)) };
-
-    ghost id = { 201 };
-
-    fn type_id() -> TypeId {
-        TypeId(201)
-    }
-
-    fn save<S: Save>(&self, saver: &mut S) -> Result<(), Memory> {
-        saver.object(2)?;
-        saver.field("word")?;
-        saver.text(self.word.as_str())?;
-        saver.field("line")?;
-        saver.unsigned(self.number)?;
-        Ok(())
-    }
-
-    fn load<L: Load>(alloc: Global, loader: &mut L) -> Result<Line, Memory> {
-        loader.object();
-        loader.field("word");
-        let word = loader.text(alloc)?;
-        loader.field("line");
-        let number = loader.unsigned();
-        Ok(Line { word, number })
-    }
-
-    ghost fits_shape = { λ it. refl };
-}
-
-/// A value with a part of each kind of shape.
-#[derive(Drop)]
-struct Sample {
-    done: bool,
-    count: u64,
-    change: i64,
-    name: Letters,
-    mark: Octets,
-    home: u32,
-    lines: Seq<Line>,
-    ghost near: { home < 256 },
-}
-
-fn tell_change<S: Save>(sample: &Sample, saver: &mut S) -> Result<(), Memory>
-    ensures { OnOk result (Tells S.told saver.old saver.new (events.signed sample.now.change ∷ [])) }
-{
-    saver.signed(sample.change)
-}
-
-/// Tells the first fields of a sample.
-fn tell_numbers<S: Save>(sample: &Sample, saver: &mut S) -> Result<(), Memory>
-    ensures { OnOk result (Tells S.told saver.old saver.new (events.object 8 ∷ events.field (codes "nothing") ∷ events.unit ∷ events.field (codes "done") ∷ events.flag sample.now.done ∷ events.field (codes "count") ∷ events.unsigned sample.now.count ∷ events.field (codes "change") ∷ events.signed sample.now.change ∷ [])) }
-{
-    saver.object(8)?;
-    saver.field("nothing")?;
-    saver.unit()?;
-    saver.field("done")?;
-    saver.flag(sample.done)?;
-    saver.field("count")?;
-    saver.unsigned(sample.count)?;
-    saver.field("change")?;
-    tell_change(sample, saver)?;
-    Ok(())
-}
-
-/// Tells the next fields of a sample.
-fn tell_texts<S: Save>(name: &str, mark: &[u8], home: u32, saver: &mut S) -> Result<(), Memory>
-    ensures { OnOk result (Tells S.told saver.old saver.new (events.field (codes "name") ∷ events.text name.now ∷ events.field (codes "mark") ∷ events.bytes mark.now ∷ events.field (codes "home") ∷ events.place home ∷ [])) }
-{
-    saver.field("name")?;
-    saver.text(name)?;
-    saver.field("mark")?;
-    saver.bytes(mark)?;
-    saver.field("home")?;
-    saver.place(home)?;
-    Ok(())
-}
-
-impl Inspect for Sample {
-    ghost use Rattle.caf_inspect.specs.declared.tests.Line.{Line};
-
-    ghost shape = { object (part (codes "nothing") unit (part (codes "done") flag (part (codes "count") unsigned (part (codes "change") signed (part (codes "name") text (part (codes "mark") bytes (part (codes "home") place (part (codes "lines") (list (object (part (codes "word") text (part (codes "line") unsigned no_parts)))) no_parts)))))))) };
-
-    ghost means = { λ it. an_object (more a_unit (more (a_flag it.done) (more (an_unsigned it.count) (more (a_signed it.change) (more (a_text it.name) (more (some_bytes it.mark) (more (a_place it.home) (more (a_list (data_of (map (λ (l : Line). an_object (more (a_text l.word) (more (an_unsigned l.number) no_data))) it.lines))) no_data)))))))) };
-
-    ghost id = { 200 };
-
-    fn type_id() -> TypeId {
-        TypeId(200)
-    }
-
-    fn save<S: Save>(&self, saver: &mut S) -> Result<(), Memory> {
-        tell_numbers(self, saver)?;
-        tell_texts(
-            self.name.as_str(),
-            self.mark.as_slice(),
-            self.home,
-            saver,
-        )?;
-        saver.field("lines")?;
-        save_list(&self.lines, saver)?;
-        Ok(())
-    }
-
-    fn load<L: Load>(alloc: Global, loader: &mut L) -> Result<Sample, Memory> {
-        loader.object();
-        loader.field("nothing");
-        loader.unit();
-        loader.field("done");
-        let done = loader.flag();
-        loader.field("count");
-        let count = loader.unsigned();
-        loader.field("change");
-        let change = loader.signed();
-        loader.field("name");
-        let name = loader.text(alloc)?;
-        loader.field("mark");
-        let mark = loader.bytes(alloc)?;
-        loader.field("home");
-        let home = loader.place();
-        loader.field("lines");
-        let lines = load_list(alloc, loader)?;
-        Ok(Sample {
-            done,
-            count,
-            change,
-            name,
-            mark,
-            home,
-            lines,
-        })
-    }
-
-    ghost fits_shape = { λ it. both_hold (lt-ltb it.home 256 it.near) (both_hold (list_fits (object (part (codes "word") text (part (codes "line") unsigned no_parts))) (λ (l : Line). an_object (more (a_text l.word) (more (an_unsigned l.number) no_data))) (λ (l : Line). refl) it.lines) refl) };
-}
-
-fn declared_samples(alloc: Global) -> Result<TypeTable, Fail>
-    ensures { IfOk result (λ t. seen t ≡ with_block built_in (codes "demo") 200 (named (codes "sample") (object (part (codes "nothing") unit (part (codes "done") flag (part (codes "count") unsigned (part (codes "change") signed (part (codes "name") text (part (codes "mark") bytes (part (codes "home") place (part (codes "lines") (list (object (part (codes "word") text (part (codes "line") unsigned no_parts)))) no_parts))))))))) ∷ [])) }
-{
-    let mut table = TypeTable::new(alloc)?;
-    type_block!(alloc, table, demo, 200, {
-        sample: {
-            nothing: Unit, done: Flag, count: Unsigned, change: Signed, name: Text, mark: Bytes,
-            home: Place, lines: [{ word: Text, line: Unsigned }]
-        }
-    })?;
-    Ok(table)
-}
-
-/// A table with the type `sample`, 200.
-fn sample_table(alloc: Global) -> Result<TypeTable, Fail>
-    ensures { IfOk result (λ t. shape_at (seen t) 200 ≡ Some (object (part (codes "nothing") unit (part (codes "done") flag (part (codes "count") unsigned (part (codes "change") signed (part (codes "name") text (part (codes "mark") bytes (part (codes "home") place (part (codes "lines") (list (object (part (codes "word") text (part (codes "line") unsigned no_parts)))) no_parts)))))))))) }
-{
-    let table = declared_samples(alloc)?;
-    Ok(table)
-}
-
-fn first_sample(alloc: Global) -> Result<Sample, Fail> {
-    let mut lines = Seq::new(alloc);
-    lines.push(Line {
-        word: Letters::of(alloc, "a")?,
-        number: 7,
-    })?;
-    lines.push(Line {
-        word: Letters::of(alloc, "bc")?,
-        number: 8,
-    })?;
-    let mut mark = Seq::new(alloc);
-    mark.push(0)?;
-    mark.push(255)?;
-    Ok(Sample {
-        done: true,
-        count: u64::MAX,
-        change: i64::MIN,
-        name: Letters::of(alloc, "caf")?,
-        mark,
-        home: 255,
-        lines,
-    })
-}
-
-#[test]
-fn each_kind_of_shape_goes_through_words_and_json(rt: HostRuntime) -> Result<(), Fail> {
-    let alloc = rt.alloc();
-    let table = sample_table(alloc)?;
-    let spelled = [
-        8,
-        0,
-        1,
-        0xffff_ffff_ffff_ffff,
-        0x8000_0000_0000_0000,
-        3,
-        0x66_6163,
-        2,
-        0xff00,
-        255,
-        2,
-        2,
-        1,
-        0x61,
-        7,
-        2,
-        2,
-        0x6362,
-        8,
-    ]
-    .as_slice();
-    let text =
-        r#"{"change":-9223372036854775808,"count":18446744073709551615,"done":true,"home":255,"lines":[{"line":7,"word":"a"},{"line":8,"word":"bc"}],"mark":"00ff","name":"caf","nothing":null}"#;
-    let sample = first_sample(alloc)?;
-    assert_eq!(rt; to_words(alloc, &sample)?.as_slice(), spelled);
-    assert_eq!(rt; to_json(alloc, &sample)?.to_string(alloc)?.as_str(), text);
-    let read: Sample = from_words(alloc, &table, spelled)?;
-    assert_eq!(rt; to_words(alloc, &read)?.as_slice(), spelled);
-    let read: Sample = from_json(alloc, &table, &json(alloc, text)?)?;
-    assert_eq!(rt; to_words(alloc, &read)?.as_slice(), spelled);
-    Ok(())
-}
-
-#[test]
-fn each_kind_of_shape_goes_through_text(rt: HostRuntime) -> Result<(), Fail> {
-    let alloc = rt.alloc();
-    let table = sample_table(alloc)?;
-    let text =
-        r#"{nothing: unit, done: true, count: 18446744073709551615, change: -9223372036854775808, name: "caf", mark: x"00ff", home: @255, lines: [{word: "a", line: 7}, {word: "bc", line: 8}]}"#;
-    let sample = first_sample(alloc)?;
-    assert_eq!(rt; to_text(alloc, &sample)?.as_str(), text);
-    let read: Sample = from_text(alloc, &table, text)?;
-    assert_eq!(rt; to_text(alloc, &read)?.as_str(), text);
     Ok(())
 }
