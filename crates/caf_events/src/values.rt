@@ -129,11 +129,7 @@ pub fn load_value<L: Load>(alloc: Global, shape: &Shape, loader: &mut L) -> Resu
 
 #[cycle(load_value)]
 #[tactic(auto, using(crate::proofs::ValueLemmas::list_taken))]
-fn load_values<L: Load>(
-    alloc: Global,
-    shape: &Shape,
-    loader: &mut L,
-) -> Result<Vec<Value>, Memory>
+fn load_values<L: Load>(alloc: Global, shape: &Shape, loader: &mut L) -> Result<Vec<Value>, Memory>
     requires { IsTrue (is_some (taking (list (tree shape.now)) (L.left loader.old))) }
     ensures { IfOk result (λ values. taking (list (tree shape.now)) (L.left loader.old) ≡ Some (a_list (data_of (map datum values.items)), L.left loader.new)) }
 {

@@ -55,8 +55,8 @@ pub text_told : {old new : TextSaver} {e : Event} (opened wrote : TextBuilder) �
 text_told {old = old} {new = new} {e = e} opened wrote begun stepped added range =
     let whole : text_state new ≡ step (text_state old) e = added ∙ ap (put_behind (string_bytes old.text)) (stepped ∙ ap (λ s. step s e) begun) ∙ step_behind e (frames_of old.parts.items) (string_bytes old.text) in
     record {
-    after = λ es h. record {
-      form = whole ∙ ap (λ s. step s e) h.form ∙ (let m = steps_more (state [] []) es e in sym m);
-      range = range_more es e h.range range;
-    };
+      after = λ es h. record {
+        form = whole ∙ ap (λ s. step s e) h.form ∙ (let m = steps_more (state [] []) es e in sym m);
+        range = range_more es e h.range range;
+      };
     }

@@ -19,11 +19,7 @@ pub struct Loader<F> {
 
 impl<F> Loader<F> {
     /// Gives the events of a value of the shape.
-    pub(crate) fn of_value(
-        alloc: Global,
-        shape: &Shape,
-        value: &Value,
-    ) -> Result<Loader<F>, Memory>
+    pub(crate) fn of_value(alloc: Global, shape: &Shape, value: &Value) -> Result<Loader<F>, Memory>
         ensures { IfOk result (λ loader. queued loader.events ≡ events (tree shape.now) (datum value.now)) }
     {
         let events = EventQueue::of_value(alloc, shape, value)?;

@@ -29,13 +29,9 @@ macro_rules! summary_fields {
 }
 
 impl Inspect for Summary {
-    ghost shape = {
-        object (part (codes "words") unsigned (part (codes "postings") unsigned (part (codes "name") text no_parts)))
-    };
+    ghost shape = { object (part (codes "words") unsigned (part (codes "postings") unsigned (part (codes "name") text no_parts))) };
 
-    ghost means = {
-        λ it. an_object (more (an_unsigned it.words) (more (an_unsigned it.postings) (more (a_text it.name) no_data)))
-    };
+    ghost means = { λ it. an_object (more (an_unsigned it.words) (more (an_unsigned it.postings) (more (a_text it.name) no_data))) };
 
     ghost id = { 200 };
 
@@ -95,11 +91,9 @@ impl Inspect for Level {
 }
 
 fn declared_table(alloc: Global) -> Result<TypeTable, Fail>
-    ensures {
-        IfOk result (λ t. seen t ≡ with_block built_in (codes "demo") 200 (named (codes "summary")
+    ensures { IfOk result (λ t. seen t ≡ with_block built_in (codes "demo") 200 (named (codes "summary")
         (object (part (codes "words") unsigned (part (codes "postings") unsigned (part (codes "name") text no_parts))))
-        ∷ []))
-    }
+        ∷ [])) }
 {
     let mut table = TypeTable::new(alloc)?;
     summary_fields!(one_type, alloc, table, demo, 200, summary)?;
@@ -108,10 +102,8 @@ fn declared_table(alloc: Global) -> Result<TypeTable, Fail>
 
 /// A table with the type `summary`, 200.
 fn demo_table(alloc: Global) -> Result<TypeTable, Fail>
-    ensures {
-        IfOk result (λ t. shape_at (seen t) 200 ≡ Some
-        (object (part (codes "words") unsigned (part (codes "postings") unsigned (part (codes "name") text no_parts)))))
-    }
+    ensures { IfOk result (λ t. shape_at (seen t) 200 ≡ Some
+        (object (part (codes "words") unsigned (part (codes "postings") unsigned (part (codes "name") text no_parts))))) }
 {
     let table = declared_table(alloc)?;
     Ok(table)
@@ -140,11 +132,20 @@ fn a_summary_goes_through_each_form(rt: HostRuntime) -> Result<(), Fail> {
     let text = r#"{words: 3, postings: 4, name: "caf"}"#;
     assert_eq!(rt; to_text(alloc, &summary)?.as_str(), text);
     let read: Summary = from_words(alloc, &table, words.as_slice())?;
-    assert_eq!(rt; (read.words, read.postings, read.name.as_str()), (3, 4, "caf"));
+    assert_eq!(rt;
+        (read.words, read.postings, read.name.as_str()),
+        (3, 4, "caf")
+    );
     let read: Summary = from_json(alloc, &table, &form)?;
-    assert_eq!(rt; (read.words, read.postings, read.name.as_str()), (3, 4, "caf"));
+    assert_eq!(rt;
+        (read.words, read.postings, read.name.as_str()),
+        (3, 4, "caf")
+    );
     let read: Summary = from_text(alloc, &table, text)?;
-    assert_eq!(rt; (read.words, read.postings, read.name.as_str()), (3, 4, "caf"));
+    assert_eq!(rt;
+        (read.words, read.postings, read.name.as_str()),
+        (3, 4, "caf")
+    );
     let answer: Result<Summary, LoadFault> = from_text(alloc, &table, "{words: x");
     assert!(rt;
         matches!(&answer, Err(LoadFault::Unfit(path)) if path.as_slice() == [8].as_slice())

@@ -9,10 +9,14 @@ use Rattle.caf_events.proofs.values.+load_value.Goals as goal
 
 pub load_items-load_value-requires : goal.load_items-load_value-requires
 load_items-load_value-requires g t c κs within =
-    let one = taking (tree c.args.shape.now) in
-    (search rules, (within,
-    some_one (map datum c.loop.values.items) one (many one (c.args.count - (c.loop.counter + 1))) (g.L.Load.left c.loop.loader) (many one c.args.count (g.L.Load.left c.args.loader.now))
-    (rw (many_more one c.args.count c.loop.counter (g.L.Load.left c.loop.loader) c.loop-test.true) at c.loop.invariant) c.requires))
+    let one = taking (tree c.args.shape.now) in (
+      search rules,
+      (
+        within,
+        some_one (map datum c.loop.values.items) one (many one (c.args.count - (c.loop.counter + 1))) (g.L.Load.left c.loop.loader) (many one c.args.count (g.L.Load.left c.args.loader.now))
+            (rw (many_more one c.args.count c.loop.counter (g.L.Load.left c.loop.loader) c.loop-test.true) at c.loop.invariant) c.requires,
+      ),
+    )
 
 pub load_items-loop-preserved : goal.load_items-loop-preserved
 load_items-loop-preserved g t c =

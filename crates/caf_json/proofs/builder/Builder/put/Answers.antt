@@ -15,8 +15,8 @@ pub loop-part-preserved : goal.loop-part-preserved
 loop-part-preserved c =
     let last = view c.loop-part.self.last in
     record {
-    same = into_last c.loop-part.self.parts.items c.pop.new.self.items c.in-Some.part last (view c.loop-part.value) _ _ c.in-Some.ensures.items (ap (filled_state (frames_of c.pop.new.self.items) last) (sym c.in-Whole.is) ∙ c.in_ok-part.ensures (frames_of c.pop.new.self.items) last) c.loop-part.invariant.same;
-    fewer = omega (arith, c.in-Some.ensures.cases);
+      same = into_last c.loop-part.self.parts.items c.pop.new.self.items c.in-Some.part last (view c.loop-part.value) _ _ c.in-Some.ensures.items (ap (filled_state (frames_of c.pop.new.self.items) last) (sym c.in-Whole.is) ∙ c.in_ok-part.ensures (frames_of c.pop.new.self.items) last) c.loop-part.invariant.same;
+      fewer = omega (arith, c.in-Some.ensures.cases);
     }
 
 pub returns-in_err-part-clause-kept : goal.returns-in_err-part-clause-kept
