@@ -1,38 +1,15 @@
--- What a loader answers.
-use Rattle.std.specs.Prelude.{◌≡◌, ℕ, ◌+◌, List, [], ◌∷◌, length, Result, Ok, Err}
+-- Where words and text fail to be the form of a value.
+use Rattle.std.specs.Prelude.{◌≡◌, ℕ, ◌+◌, List, [], ◌∷◌, length, Err}
+use Rattle.caf_types.specs.ShapeTree.{ShapeTree}
+use Rattle.caf_types.specs.Table.{Table}
+use Rattle.caf_words.specs.Several.{whole_reading}
 use Rattle.caf_words.specs.declared.stop.SpellFault.{SpellFault}
 use Rattle.caf_words.specs.declared.stop.SpellFault.TheVariants as spell
 use Rattle.caf_text.specs.Front.{IsLongestFront}
-use Rattle.caf_text.specs.declared.stop.TextFault.{TextFault}
-use Rattle.caf_text.specs.declared.stop.TextFault.TheVariants as text
-use Rattle.caf_types.specs.ShapeTree.{ShapeTree}
-use Rattle.caf_types.specs.Table.{Table}
-use Rattle.caf_words.specs.Datum.{Datum}
-use Rattle.caf_words.specs.Several.{whole_reading}
-use Rattle.caf_inspect.specs.Event.{Event, events}
-use Rattle.caf_inspect.specs.declared.fault.LoadFault.{LoadFault}
-use Rattle.caf_inspect.specs.declared.fault.LoadFault.TheVariants as faults
-
--- ---- the readers inside, against what reading gives; want of memory has no cause
-
-abbrev pub Fails : {Y : Type 0} → LoadFault → Result Y (List ℕ) → Type 0
-Fails faults.Memory read = Unit {0}
-Fails (faults.Unfit path) read = read ≡ Err path
-
-abbrev pub Gives : {X Y : Type 0} → (X → Y) → Result X LoadFault → Result Y (List ℕ) → Type 0
-Gives view (Ok x) read = read ≡ Ok (view x)
-Gives view (Err fault) read = Fails fault read
-
--- ---- a loader: it starts with the events of the value that has the input as its form; where no
--- value has, the path is that of the input's fault
-
-abbrev pub Refused : (Datum → Type 0) → (List ℕ → Type 0) → LoadFault → Type 0
-Refused Has At faults.Memory = Unit {0}
-Refused Has At (faults.Unfit path) = At path × ((d : Datum) → Has d → ⊥)
-
-abbrev pub Started : {L : Type 0} → (L → List Event) → ShapeTree → (Datum → Type 0) → (List ℕ → Type 0) → Result L LoadFault → Type 0
-Started left f Has At (Ok loader) = (d : Datum) × Has d × (left loader ≡ events f d)
-Started left f Has At (Err fault) = Refused Has At fault
+use Rattle.caf_text.specs.declared.text_fault.TextFault.{TextFault}
+use Rattle.caf_text.specs.declared.text_fault.TextFault.TheVariants as text
+use Rattle.caf_events.specs.declared.fault.LoadFault.{LoadFault}
+use Rattle.caf_events.specs.declared.fault.LoadFault.TheVariants as faults
 
 -- the place of the first fault, in reading one value of the type from the words
 abbrev pub WordsFailAt : Table → ℕ → List ℕ → List ℕ → Type 0

@@ -2,8 +2,8 @@
 use Rattle.std.specs.Prelude.{ℕ, zero, suc, List, [], ◌∷◌, ◌++◌}
 use Rattle.caf_text.specs.TextForm.{comma, colon, scalar_text}
 use Rattle.caf_words.specs.Datum.{a_unit, a_flag, an_unsigned, a_signed, a_text, some_bytes, a_place}
-use Rattle.caf_inspect.specs.Event as event
-use Rattle.caf_inspect.specs.Event.{Event}
+use Rattle.caf_events.specs.Event as event
+use Rattle.caf_events.specs.Event.{Event}
 
 -- an open part: how many values are missing behind the next one
 pub data Frame : Type 0 where
@@ -47,3 +47,7 @@ step (state fs t) e = take_in e fs t
 abbrev pub steps : State → List Event → State
 steps s [] = s
 steps s (e ∷ es) = steps (step s e) es
+
+-- with a text in front of what was written
+abbrev pub put_behind : List ℕ → State → State
+put_behind front (state fs t) = state fs (front ++ t)

@@ -1,9 +1,8 @@
 -- The words of events.
-use Rattle.std.specs.Prelude.{◌≡◌, ℕ, List, [], ◌∷◌, flat_map, length}
+use Rattle.std.specs.Prelude.{ℕ, List, [], ◌∷◌, flat_map, length}
 use Rattle.std.specs.Int.{w64, cast_unsigned}
 use Rattle.caf_words.specs.Spelling.{bit, packed}
-use Rattle.caf_inspect.specs.Event.{Event, unit, flag, unsigned, signed, text, bytes, place, list, object, field}
-use Rattle.caf_inspect.specs.Range.{AreInRange}
+use Rattle.caf_events.specs.Event.{Event, unit, flag, unsigned, signed, text, bytes, place, list, object, field}
 
 -- a field's name has none
 abbrev pub words_of : Event → List ℕ
@@ -20,8 +19,3 @@ words_of (field name) = []
 
 abbrev pub all_words : List Event → List ℕ
 all_words es = flat_map words_of es
-
--- the words are those of the events
-pub record SavesWords (words : List ℕ) (es : List Event) : Type 0 where
-  pub form : words ≡ all_words es
-  pub range : AreInRange es

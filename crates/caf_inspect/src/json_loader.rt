@@ -1,28 +1,25 @@
-ghost use Rattle.std.specs.Prelude.{◌≡◌, Some, Err, is_some, IsTrue};
-ghost use Rattle.serde_json.specs.View.{view};
+ghost use Rattle.std.specs.Prelude.{◌≡◌, Some, is_some, IsTrue};
 ghost use Rattle.caf_types.specs.ShapeTree.{ShapeTree};
 ghost use Rattle.caf_types.specs.Shape.{tree};
 ghost use Rattle.caf_types.specs.Table.{shape_at};
 ghost use Rattle.caf_types.specs.TypeTable.{seen};
-ghost use Rattle.caf_inspect.specs.JsonForm.{HasJson};
-ghost use Rattle.caf_inspect.specs.JsonReading.{unjson};
-ghost use Rattle.caf_inspect.specs.Left.{json_left};
-ghost use Rattle.caf_inspect.specs.LoadAnswer.{Started};
+ghost use Rattle.caf_json.specs.Answer.{IsFormOf, UnfitAt};
+ghost use Rattle.caf_inspect.specs.Loader.{loader_left};
+ghost use Rattle.caf_events.specs.LoadAnswer.{Started};
 
-use crate::json_reading::value_of;
-use crate::queue::EventQueue;
-use crate::{Load, LoadFault};
-use caf_types::{Letters, Memory, Octets, Shape, TypeId, TypeTable};
-use serde_json::Value as Json;
+use crate::Loader;
+use caf_events::LoadFault;
+use caf_json::{Json, value_of_json};
+use caf_types::{Shape, TypeId, TypeTable};
 use std::alloc::Global;
 
 /// Gives the events of the value that some JSON is the form of.
-#[derive(Debug, Drop)]
-pub struct JsonLoader {
-    pub(crate) events: EventQueue,
-}
+pub type JsonLoader = Loader<InJson>;
 
-impl JsonLoader {
+/// JSON, as the form of a value.
+pub struct InJson;
+
+impl Loader<InJson> {
     /// Reads JSON as the form of a value of the type `id`, which is in the table.
     ///
     /// `Unfit` comes exactly where it is no form of the type's shape. The path's positions, of fields
@@ -37,7 +34,7 @@ impl JsonLoader {
     ) -> Result<JsonLoader, LoadFault>
         requires { IsTrue (is_some (shape_at (seen table.now) id.0)) }
         ensures { (f : ShapeTree) → shape_at (seen table.now) id.0 ≡ Some f →
-            Started json_left f (λ d. HasJson f d (view json.now)) (λ path. unjson f (view json.now) ≡ Err path) result }
+            Started loader_left f (λ d. IsFormOf f d json.now) (UnfitAt f json.now) result }
     {
         match table.shape(id) {
             Some(shape) => read_json(alloc, shape, json),
@@ -47,57 +44,13 @@ impl JsonLoader {
 }
 
 fn read_json(alloc: Global, shape: &Shape, json: &Json) -> Result<JsonLoader, LoadFault>
-    ensures { Started json_left (tree shape.now) (λ d. HasJson (tree shape.now) d (view json.now)) (λ path. unjson (tree shape.now) (view json.now) ≡ Err path) result }
+    ensures { Started loader_left (tree shape.now) (λ d. IsFormOf (tree shape.now) d json.now) (UnfitAt (tree shape.now) json.now) result }
 {
-    match value_of(alloc, shape, json) {
+    match value_of_json(alloc, shape, json) {
         Ok(value) => {
-            let events = EventQueue::of_value(alloc, shape, &value)?;
-            Ok(JsonLoader { events })
+            let loader = Loader::of_value(alloc, shape, &value)?;
+            Ok(loader)
         }
         Err(fault) => Err(fault),
-    }
-}
-
-impl Load for JsonLoader {
-    ghost left = { json_left };
-
-    fn unit(&mut self) {
-        self.events.unit()
-    }
-
-    fn flag(&mut self) -> bool {
-        self.events.flag()
-    }
-
-    fn unsigned(&mut self) -> u64 {
-        self.events.unsigned()
-    }
-
-    fn signed(&mut self) -> i64 {
-        self.events.signed()
-    }
-
-    fn text(&mut self, alloc: Global) -> Result<Letters, Memory> {
-        self.events.text(alloc)
-    }
-
-    fn bytes(&mut self, alloc: Global) -> Result<Octets, Memory> {
-        self.events.bytes(alloc)
-    }
-
-    fn place(&mut self) -> u32 {
-        self.events.place()
-    }
-
-    fn list(&mut self) -> u64 {
-        self.events.list()
-    }
-
-    fn object(&mut self) -> u64 {
-        self.events.object()
-    }
-
-    fn field(&mut self, name: &str) {
-        self.events.field(name)
     }
 }

@@ -1,4 +1,4 @@
-//! One inspection of a type, and the forms in which its values are saved and loaded.
+//! One inspection of a type, and the forms in which its values are saved and loaded: words, JSON and text.
 //!
 //! A type that is [`Inspect`] tells its value as events, to any [`Save`], and is made again from the
 //! events of any [`Load`]. Savers keep a form of what they were told, and loaders read one.
@@ -8,38 +8,26 @@
 //! the forms.
 #![tactic(auto)]
 
-mod digits;
-mod fault;
-mod inspection;
-mod item;
+mod forms;
 mod json_loader;
-mod json_part;
-mod json_reading;
-mod json_saver;
-mod law;
-mod lists;
-mod load;
-mod queue;
-mod range;
-mod save;
+mod loader;
+mod text_builder;
 mod text_loader;
 mod text_saver;
-mod whole;
 mod word_loader;
 mod word_saver;
 
-pub use fault::LoadFault;
-pub use inspection::Inspect;
-pub use json_loader::JsonLoader;
-pub use json_saver::JsonSaver;
-pub use law::{events_are_taken, json_is_exact};
-pub use lists::{load_list, save_list};
-pub use load::Load;
-pub use save::Save;
-pub use text_loader::TextLoader;
+pub use caf_events::{
+    EventQueue, Inspect, Item, Load, LoadFault, Save, events_are_taken, load_list, load_value,
+    save_list, save_value,
+};
+pub use caf_json::{Json, JsonSaver, json_is_exact, value_of_json};
+pub use forms::{from_json, from_text, from_words, to_json, to_text, to_words};
+pub use json_loader::{InJson, JsonLoader};
+pub use loader::Loader;
+pub use text_loader::{InText, TextLoader};
 pub use text_saver::TextSaver;
-pub use whole::{from_json, from_text, from_words, to_json, to_text, to_words};
-pub use word_loader::WordLoader;
+pub use word_loader::{InWords, WordLoader};
 pub use word_saver::WordSaver;
 
 #[cfg(test)]

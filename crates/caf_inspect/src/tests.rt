@@ -1,31 +1,37 @@
-ghost use Rattle.std.specs.Prelude.{◌≡◌, [], ◌∷◌, codes, cond, map, nat_lt, true, false, Some, IfOk, OnOk, refl};
-ghost use Rattle.caf_types.specs.ShapeTree.{unit, flag, unsigned, signed, text, bytes, place, list, object, no_parts, part};
+ghost use Rattle.std.specs.Prelude.{◌≡◌, [], ◌∷◌, ℕ, codes, Some, IfOk, refl};
+ghost use Rattle.caf_types.specs.ShapeTree.{unsigned, text, object, no_parts, part};
 ghost use Rattle.caf_types.specs.Table.{shape_at, with_block, built_in, named};
 ghost use Rattle.caf_types.specs.TypeTable.{seen};
-ghost use Rattle.caf_words.specs.Datum.{a_unit, a_flag, an_unsigned, a_signed, a_text, some_bytes, a_place, a_list, an_object, more, no_data, data_of};
-ghost use Rattle.caf_inspect.specs.Event as events;
-ghost use Rattle.caf_inspect.specs.Fitting.{both_hold, all_hold};
-ghost use Rattle.caf_inspect.specs.Tells.{Tells};
+ghost use Rattle.caf_words.specs.Datum.{an_unsigned, a_text, an_object, more, no_data};
 
 use crate::{
-    Inspect, JsonLoader, Load, LoadFault, Save, WordLoader, from_json, from_text, from_words,
-    load_list, save_list, to_json, to_text, to_words,
+    Inspect, Json, JsonLoader, Load, LoadFault, Save, WordLoader, from_json, from_text, from_words,
+    to_json, to_text, to_words,
 };
-use caf_types::{Letters, Memory, Octets, Seq, TypeId, TypeTable, type_block};
-use serde_json::Value as Json;
+use caf_events::{load_fields, one_type, save_fields};
+use caf_types::{Letters, Memory, TypeId, TypeTable, type_block};
 use std::alloc::Global;
 use std::test::Fail;
 
+/// What an index tells of itself.
 #[derive(Drop)]
 struct Summary {
     words: u64,
     postings: u64,
+    name: Letters,
+}
+
+/// Hands on the fields of a summary, each with its shape.
+macro_rules! summary_fields {
+    ($then:ident, $($given:tt)*) => {
+        $then!($($given)*, { words: Unsigned, postings: Unsigned, name: Text })
+    };
 }
 
 impl Inspect for Summary {
-    ghost shape = { object (part (codes "words") unsigned (part (codes "postings") unsigned no_parts)) };
+    ghost shape = { object (part (codes "words") unsigned (part (codes "postings") unsigned (part (codes "name") text no_parts))) };
 
-    ghost means = { λ it. an_object (more (an_unsigned it.words) (more (an_unsigned it.postings) no_data)) };
+    ghost means = { λ it. an_object (more (an_unsigned it.words) (more (an_unsigned it.postings) (more (a_text it.name) no_data))) };
 
     ghost id = { 200 };
 
@@ -34,37 +40,70 @@ impl Inspect for Summary {
     }
 
     fn save<S: Save>(&self, saver: &mut S) -> Result<(), Memory> {
-        saver.object(2)?;
-        saver.field("words")?;
-        saver.unsigned(self.words)?;
-        saver.field("postings")?;
-        saver.unsigned(self.postings)?;
-        Ok(())
+        summary_fields!(save_fields, self, saver)
     }
 
-    fn load<L: Load>(_alloc: Global, loader: &mut L) -> Result<Summary, Memory> {
-        loader.object();
-        loader.field("words");
-        let words = loader.unsigned();
-        loader.field("postings");
-        let postings = loader.unsigned();
-        Ok(Summary { words, postings })
+    fn load<L: Load>(alloc: Global, loader: &mut L) -> Result<Summary, Memory> {
+        summary_fields!(load_fields, alloc, loader, Summary)
+    }
+
+    ghost fits_shape = { λ it. refl };
+}
+
+/// A level. Numbers that have no name are levels too.
+#[derive(Drop)]
+enum Level {
+    Low,
+    High,
+    Other(u64),
+}
+
+impl Inspect for Level {
+    ghost use Rattle.caf_inspect.specs.declared.tests.Level.TheVariants as levels;
+
+    ghost shape = { unsigned };
+
+    ghost means = { λ it. an_unsigned (elim it [ levels.Low ↦ 0 | levels.High ↦ 1 | levels.Other n ↦ n ]) };
+
+    ghost id = { 201 };
+
+    fn type_id() -> TypeId {
+        TypeId(201)
+    }
+
+    fn save<S: Save>(&self, saver: &mut S) -> Result<(), Memory> {
+        match self {
+            Level::Low => saver.unsigned(0),
+            Level::High => saver.unsigned(1),
+            Level::Other(number) => saver.unsigned(*number),
+        }
+    }
+
+    fn load<L: Load>(_alloc: Global, loader: &mut L) -> Result<Level, Memory> {
+        match loader.unsigned() {
+            0 => Ok(Level::Low),
+            1 => Ok(Level::High),
+            number => Ok(Level::Other(number)),
+        }
     }
 
     ghost fits_shape = { λ it. refl };
 }
 
 fn declared_table(alloc: Global) -> Result<TypeTable, Fail>
-    ensures { IfOk result (λ t. seen t ≡ with_block built_in (codes "demo") 200 (named (codes "summary") (object (part (codes "words") unsigned (part (codes "postings") unsigned no_parts))) ∷ [])) }
+    ensures { IfOk result (λ t. seen t ≡ with_block built_in (codes "demo") 200 (named (codes "summary")
+        (object (part (codes "words") unsigned (part (codes "postings") unsigned (part (codes "name") text no_parts))))
+        ∷ [])) }
 {
     let mut table = TypeTable::new(alloc)?;
-    type_block!(alloc, table, demo, 200, { summary: { words: Unsigned, postings: Unsigned } })?;
+    summary_fields!(one_type, alloc, table, demo, 200, summary)?;
     Ok(table)
 }
 
 /// A table with the type `summary`, 200.
 fn demo_table(alloc: Global) -> Result<TypeTable, Fail>
-    ensures { IfOk result (λ t. shape_at (seen t) 200 ≡ Some (object (part (codes "words") unsigned (part (codes "postings") unsigned no_parts)))) }
+    ensures { IfOk result (λ t. shape_at (seen t) 200 ≡ Some
+        (object (part (codes "words") unsigned (part (codes "postings") unsigned (part (codes "name") text no_parts))))) }
 {
     let table = declared_table(alloc)?;
     Ok(table)
@@ -75,24 +114,51 @@ fn json(alloc: Global, text: &str) -> Result<Json, Fail> {
 }
 
 #[test]
-fn a_summary_goes_through_words_and_json(rt: HostRuntime) -> Result<(), Fail> {
+fn a_summary_goes_through_each_form(rt: HostRuntime) -> Result<(), Fail> {
     let alloc = rt.alloc();
     let table = demo_table(alloc)?;
     let summary = Summary {
         words: 3,
         postings: 4,
+        name: Letters::of(alloc, "caf")?,
     };
     let words = to_words(alloc, &summary)?;
-    assert_eq!(rt; words.as_slice(), [2, 3, 4].as_slice());
+    assert_eq!(rt; words.as_slice(), [3, 3, 4, 3, 6_709_603].as_slice());
     let form = to_json(alloc, &summary)?;
     assert_eq!(rt;
         form.to_string(alloc)?.as_str(),
-        r#"{"postings":4,"words":3}"#
+        r#"{"name":"caf","postings":4,"words":3}"#
     );
+    let text = r#"{words: 3, postings: 4, name: "caf"}"#;
+    assert_eq!(rt; to_text(alloc, &summary)?.as_str(), text);
     let read: Summary = from_words(alloc, &table, words.as_slice())?;
-    assert_eq!(rt; (read.words, read.postings), (3, 4));
+    assert_eq!(rt;
+        (read.words, read.postings, read.name.as_str()),
+        (3, 4, "caf")
+    );
     let read: Summary = from_json(alloc, &table, &form)?;
-    assert_eq!(rt; (read.words, read.postings), (3, 4));
+    assert_eq!(rt;
+        (read.words, read.postings, read.name.as_str()),
+        (3, 4, "caf")
+    );
+    let read: Summary = from_text(alloc, &table, text)?;
+    assert_eq!(rt;
+        (read.words, read.postings, read.name.as_str()),
+        (3, 4, "caf")
+    );
+    let answer: Result<Summary, LoadFault> = from_text(alloc, &table, "{words: x");
+    assert!(rt;
+        matches!(&answer, Err(LoadFault::Unfit(path)) if path.as_slice() == [8].as_slice())
+    );
+    Ok(())
+}
+
+#[test]
+fn levels_are_numbers(rt: HostRuntime) -> Result<(), Fail> {
+    let alloc = rt.alloc();
+    for (level, number) in [(Level::Low, 0), (Level::High, 1), (Level::Other(7), 7)] {
+        assert_eq!(rt; to_words(alloc, &level)?.as_slice(), [number].as_slice());
+    }
     Ok(())
 }
 
@@ -212,274 +278,5 @@ fn json_of_each_kind_of_shape_is_read(rt: HostRuntime) -> Result<(), Fail> {
         let found = json_path(alloc, &table, id, text)?;
         assert!(rt; found.is_none(), "at {text}");
     }
-    Ok(())
-}
-
-#[derive(Drop)]
-struct Line {
-    word: Letters,
-    number: u64,
-}
-
-impl Inspect for Line {
-    ghost shape = { object (part (codes "word") text (part (codes "line") unsigned no_parts)) };
-
-    ghost means = { λ it. an_object (more (a_text it.word) (more (an_unsigned it.number) no_data)) };
-
-    ghost id = { 201 };
-
-    fn type_id() -> TypeId {
-        TypeId(201)
-    }
-
-    fn save<S: Save>(&self, saver: &mut S) -> Result<(), Memory> {
-        saver.object(2)?;
-        saver.field("word")?;
-        saver.text(self.word.as_str())?;
-        saver.field("line")?;
-        saver.unsigned(self.number)?;
-        Ok(())
-    }
-
-    fn load<L: Load>(alloc: Global, loader: &mut L) -> Result<Line, Memory> {
-        loader.object();
-        loader.field("word");
-        let word = loader.text(alloc)?;
-        loader.field("line");
-        let number = loader.unsigned();
-        Ok(Line { word, number })
-    }
-
-    ghost fits_shape = { λ it. refl };
-}
-
-/// A value with a part of each kind of shape.
-#[derive(Drop)]
-struct Sample {
-    done: bool,
-    count: u64,
-    change: i64,
-    name: Letters,
-    mark: Octets,
-    is_far: bool,
-    lines: Seq<Line>,
-}
-
-fn home(is_far: bool) -> u32
-    ensures { result ≡ cond is_far 255 7 }
-{
-    if is_far { 255 } else { 7 }
-}
-
-fn tell_change<S: Save>(sample: &Sample, saver: &mut S) -> Result<(), Memory>
-    ensures { OnOk result (Tells S.told saver.old saver.new (events.signed sample.now.change ∷ [])) }
-{
-    saver.signed(sample.change)
-}
-
-/// Tells the first fields of a sample.
-fn tell_numbers<S: Save>(sample: &Sample, saver: &mut S) -> Result<(), Memory>
-    ensures { OnOk result (Tells S.told saver.old saver.new (events.object 8 ∷ events.field (codes "nothing") ∷ events.unit ∷ events.field (codes "done") ∷ events.flag sample.now.done ∷ events.field (codes "count") ∷ events.unsigned sample.now.count ∷ events.field (codes "change") ∷ events.signed sample.now.change ∷ [])) }
-{
-    saver.object(8)?;
-    saver.field("nothing")?;
-    saver.unit()?;
-    saver.field("done")?;
-    saver.flag(sample.done)?;
-    saver.field("count")?;
-    saver.unsigned(sample.count)?;
-    saver.field("change")?;
-    tell_change(sample, saver)?;
-    Ok(())
-}
-
-/// Tells the next fields of a sample.
-fn tell_texts<S: Save>(name: &str, mark: &[u8], home: u32, saver: &mut S) -> Result<(), Memory>
-    ensures { OnOk result (Tells S.told saver.old saver.new (events.field (codes "name") ∷ events.text name.now ∷ events.field (codes "mark") ∷ events.bytes mark.now ∷ events.field (codes "home") ∷ events.place home ∷ [])) }
-{
-    saver.field("name")?;
-    saver.text(name)?;
-    saver.field("mark")?;
-    saver.bytes(mark)?;
-    saver.field("home")?;
-    saver.place(home)?;
-    Ok(())
-}
-
-impl Inspect for Sample {
-    ghost use Rattle.caf_inspect.specs.declared.tests.Line.{Line};
-
-    ghost shape = { object (part (codes "nothing") unit (part (codes "done") flag (part (codes "count") unsigned (part (codes "change") signed (part (codes "name") text (part (codes "mark") bytes (part (codes "home") place (part (codes "lines") (list (object (part (codes "word") text (part (codes "line") unsigned no_parts)))) no_parts)))))))) };
-
-    ghost means = { λ it. an_object (more a_unit (more (a_flag it.done) (more (an_unsigned it.count) (more (a_signed it.change) (more (a_text it.name) (more (some_bytes it.mark) (more (a_place (cond it.is_far 255 7)) (more (a_list (data_of (map (λ (l : Line). an_object (more (a_text l.word) (more (an_unsigned l.number) no_data))) it.lines))) no_data)))))))) };
-
-    ghost id = { 200 };
-
-    fn type_id() -> TypeId {
-        TypeId(200)
-    }
-
-    fn save<S: Save>(&self, saver: &mut S) -> Result<(), Memory> {
-        tell_numbers(self, saver)?;
-        tell_texts(
-            self.name.as_str(),
-            self.mark.as_slice(),
-            home(self.is_far),
-            saver,
-        )?;
-        saver.field("lines")?;
-        save_list(&self.lines, saver)?;
-        Ok(())
-    }
-
-    fn load<L: Load>(alloc: Global, loader: &mut L) -> Result<Sample, Memory> {
-        loader.object();
-        loader.field("nothing");
-        loader.unit();
-        loader.field("done");
-        let done = loader.flag();
-        loader.field("count");
-        let count = loader.unsigned();
-        loader.field("change");
-        let change = loader.signed();
-        loader.field("name");
-        let name = loader.text(alloc)?;
-        loader.field("mark");
-        let mark = loader.bytes(alloc)?;
-        loader.field("home");
-        let home = loader.place();
-        loader.field("lines");
-        let lines = load_list(alloc, loader)?;
-        if home != 7 && home != 255 {
-            return Err(Memory);
-        }
-        Ok(Sample {
-            done,
-            count,
-            change,
-            name,
-            mark,
-            is_far: home == 255,
-            lines,
-        })
-    }
-
-    ghost fits_shape = { λ it. both_hold _ _ (elim it.is_far as (λ b. nat_lt (cond b 255 7) 256 ≡ true) [ true ↦ refl | false ↦ refl ]) (both_hold _ _ (all_hold _ (λ (l : Line). an_object (more (a_text l.word) (more (an_unsigned l.number) no_data))) (λ (l : Line). refl) it.lines) refl) };
-}
-
-fn declared_samples(alloc: Global) -> Result<TypeTable, Fail>
-    ensures { IfOk result (λ t. seen t ≡ with_block built_in (codes "demo") 200 (named (codes "sample") (object (part (codes "nothing") unit (part (codes "done") flag (part (codes "count") unsigned (part (codes "change") signed (part (codes "name") text (part (codes "mark") bytes (part (codes "home") place (part (codes "lines") (list (object (part (codes "word") text (part (codes "line") unsigned no_parts)))) no_parts))))))))) ∷ [])) }
-{
-    let mut table = TypeTable::new(alloc)?;
-    type_block!(alloc, table, demo, 200, {
-        sample: {
-            nothing: Unit, done: Flag, count: Unsigned, change: Signed, name: Text, mark: Bytes,
-            home: Place, lines: [{ word: Text, line: Unsigned }]
-        }
-    })?;
-    Ok(table)
-}
-
-/// A table with the type `sample`, 200.
-fn sample_table(alloc: Global) -> Result<TypeTable, Fail>
-    ensures { IfOk result (λ t. shape_at (seen t) 200 ≡ Some (object (part (codes "nothing") unit (part (codes "done") flag (part (codes "count") unsigned (part (codes "change") signed (part (codes "name") text (part (codes "mark") bytes (part (codes "home") place (part (codes "lines") (list (object (part (codes "word") text (part (codes "line") unsigned no_parts)))) no_parts)))))))))) }
-{
-    let table = declared_samples(alloc)?;
-    Ok(table)
-}
-
-fn first_sample(alloc: Global) -> Result<Sample, Fail> {
-    let mut lines = Seq::new(alloc);
-    lines.push(Line {
-        word: Letters::of(alloc, "a")?,
-        number: 7,
-    })?;
-    lines.push(Line {
-        word: Letters::of(alloc, "bc")?,
-        number: 8,
-    })?;
-    let mut mark = Seq::new(alloc);
-    mark.push(0)?;
-    mark.push(255)?;
-    Ok(Sample {
-        done: true,
-        count: u64::MAX,
-        change: i64::MIN,
-        name: Letters::of(alloc, "caf")?,
-        mark,
-        is_far: true,
-        lines,
-    })
-}
-
-#[test]
-fn each_kind_of_shape_goes_through_words_and_json(rt: HostRuntime) -> Result<(), Fail> {
-    let alloc = rt.alloc();
-    let table = sample_table(alloc)?;
-    let spelled = [
-        8,
-        0,
-        1,
-        0xffff_ffff_ffff_ffff,
-        0x8000_0000_0000_0000,
-        3,
-        0x66_6163,
-        2,
-        0xff00,
-        255,
-        2,
-        2,
-        1,
-        0x61,
-        7,
-        2,
-        2,
-        0x6362,
-        8,
-    ]
-    .as_slice();
-    let text =
-        r#"{"change":-9223372036854775808,"count":18446744073709551615,"done":true,"home":255,"lines":[{"line":7,"word":"a"},{"line":8,"word":"bc"}],"mark":"00ff","name":"caf","nothing":null}"#;
-    let sample = first_sample(alloc)?;
-    assert_eq!(rt; to_words(alloc, &sample)?.as_slice(), spelled);
-    assert_eq!(rt; to_json(alloc, &sample)?.to_string(alloc)?.as_str(), text);
-    let read: Sample = from_words(alloc, &table, spelled)?;
-    assert_eq!(rt; to_words(alloc, &read)?.as_slice(), spelled);
-    let read: Sample = from_json(alloc, &table, &json(alloc, text)?)?;
-    assert_eq!(rt; to_words(alloc, &read)?.as_slice(), spelled);
-    Ok(())
-}
-
-#[test]
-fn each_kind_of_shape_goes_through_text(rt: HostRuntime) -> Result<(), Fail> {
-    let alloc = rt.alloc();
-    let table = sample_table(alloc)?;
-    let text =
-        r#"{nothing: unit, done: true, count: 18446744073709551615, change: -9223372036854775808, name: "caf", mark: x"00ff", home: @255, lines: [{word: "a", line: 7}, {word: "bc", line: 8}]}"#;
-    let sample = first_sample(alloc)?;
-    assert_eq!(rt; to_text(alloc, &sample)?.as_str(), text);
-    let read: Sample = from_text(alloc, &table, text)?;
-    assert_eq!(rt; to_text(alloc, &read)?.as_str(), text);
-    Ok(())
-}
-
-#[test]
-fn a_summary_goes_through_text(rt: HostRuntime) -> Result<(), Fail> {
-    let alloc = rt.alloc();
-    let table = demo_table(alloc)?;
-    let summary = Summary {
-        words: 3,
-        postings: 4,
-    };
-    assert_eq!(rt;
-        to_text(alloc, &summary)?.as_str(),
-        "{words: 3, postings: 4}"
-    );
-    let read: Summary = from_text(alloc, &table, "{words: 3, postings: 4}")?;
-    assert_eq!(rt; (read.words, read.postings), (3, 4));
-    let answer: Result<Summary, LoadFault> = from_text(alloc, &table, "{words: x");
-    assert!(rt;
-        matches!(&answer, Err(LoadFault::Unfit(path)) if path.as_slice() == [8].as_slice())
-    );
     Ok(())
 }

@@ -4,22 +4,23 @@ ghost use Rattle.caf_types.specs.Shape.{tree};
 ghost use Rattle.caf_types.specs.Table.{shape_at};
 ghost use Rattle.caf_types.specs.TypeTable.{seen};
 ghost use Rattle.caf_text.specs.TextForm.{HasText};
-ghost use Rattle.caf_inspect.specs.Left.{text_left};
-ghost use Rattle.caf_inspect.specs.LoadAnswer.{Started, TextFailsAt, AtLength};
+ghost use Rattle.caf_inspect.specs.Loader.{loader_left};
+ghost use Rattle.caf_events.specs.LoadAnswer.{Started};
+ghost use Rattle.caf_inspect.specs.LoadAnswer.{TextFailsAt, AtLength};
 
-use crate::queue::EventQueue;
-use crate::{Load, LoadFault};
+use crate::Loader;
+use caf_events::LoadFault;
 use caf_text::{TextFault, read_text};
-use caf_types::{Letters, Memory, Octets, Seq, Shape, TypeId, TypeTable};
+use caf_types::{Seq, Shape, TypeId, TypeTable};
 use std::alloc::Global;
 
 /// Gives the events of the value that some text is the form of.
-#[derive(Debug, Drop)]
-pub struct TextLoader {
-    pub(crate) events: EventQueue,
-}
+pub type TextLoader = Loader<InText>;
 
-impl TextLoader {
+/// A text, as the form of a value.
+pub struct InText;
+
+impl Loader<InText> {
     /// Reads a text as the form of a value of the type `id`, which is in the table.
     ///
     /// `Unfit` comes exactly where it is no text form of the type's shape. The path has one number,
@@ -33,7 +34,7 @@ impl TextLoader {
     ) -> Result<TextLoader, LoadFault>
         requires { IsTrue (is_some (shape_at (seen table.now) id.0)) }
         ensures { (f : ShapeTree) → shape_at (seen table.now) id.0 ≡ Some f →
-            Started text_left f (λ d. HasText f d text.now) (TextFailsAt f text.now) result }
+            Started loader_left f (λ d. HasText f d text.now) (TextFailsAt f text.now) result }
     {
         match table.shape(id) {
             Some(shape) => load_text(alloc, shape, text),
@@ -43,12 +44,12 @@ impl TextLoader {
 }
 
 fn load_text(alloc: Global, shape: &Shape, text: &str) -> Result<TextLoader, LoadFault>
-    ensures { Started text_left (tree shape.now) (λ d. HasText (tree shape.now) d text.now) (TextFailsAt (tree shape.now) text.now) result }
+    ensures { Started loader_left (tree shape.now) (λ d. HasText (tree shape.now) d text.now) (TextFailsAt (tree shape.now) text.now) result }
 {
     match read_text(alloc, shape, text) {
         Ok(value) => {
-            let events = EventQueue::of_value(alloc, shape, &value)?;
-            Ok(TextLoader { events })
+            let loader = Loader::of_value(alloc, shape, &value)?;
+            Ok(loader)
         }
         Err(fault) => Err(load_fault(alloc, fault)),
     }
@@ -67,49 +68,5 @@ fn load_fault(alloc: Global, fault: TextFault) -> LoadFault
                 Err(_) => LoadFault::Memory,
             }
         }
-    }
-}
-
-impl Load for TextLoader {
-    ghost left = { text_left };
-
-    fn unit(&mut self) {
-        self.events.unit()
-    }
-
-    fn flag(&mut self) -> bool {
-        self.events.flag()
-    }
-
-    fn unsigned(&mut self) -> u64 {
-        self.events.unsigned()
-    }
-
-    fn signed(&mut self) -> i64 {
-        self.events.signed()
-    }
-
-    fn text(&mut self, alloc: Global) -> Result<Letters, Memory> {
-        self.events.text(alloc)
-    }
-
-    fn bytes(&mut self, alloc: Global) -> Result<Octets, Memory> {
-        self.events.bytes(alloc)
-    }
-
-    fn place(&mut self) -> u32 {
-        self.events.place()
-    }
-
-    fn list(&mut self) -> u64 {
-        self.events.list()
-    }
-
-    fn object(&mut self) -> u64 {
-        self.events.object()
-    }
-
-    fn field(&mut self, name: &str) {
-        self.events.field(name)
     }
 }

@@ -4,22 +4,23 @@ ghost use Rattle.caf_types.specs.Table.{shape_at};
 ghost use Rattle.caf_types.specs.TypeTable.{seen};
 ghost use Rattle.caf_words.specs.Spelling.{Spells};
 ghost use Rattle.caf_words.specs.Value.{datum};
-ghost use Rattle.caf_inspect.specs.Left.{word_left};
-ghost use Rattle.caf_inspect.specs.LoadAnswer.{Started, Refused, WordsFailAt, Placed};
+ghost use Rattle.caf_inspect.specs.Loader.{loader_left};
+ghost use Rattle.caf_events.specs.LoadAnswer.{Started, Refused};
+ghost use Rattle.caf_inspect.specs.LoadAnswer.{WordsFailAt, Placed};
 
-use crate::queue::EventQueue;
-use crate::{Load, LoadFault};
-use caf_types::{Letters, Memory, Octets, Seq, TypeId, TypeTable};
+use crate::Loader;
+use caf_events::LoadFault;
+use caf_types::{Seq, TypeId, TypeTable};
 use caf_words::{SpellFault, Value, read};
 use std::alloc::Global;
 
 /// Gives the events of the value that some words are the spelling of.
-#[derive(Debug, Drop)]
-pub struct WordLoader {
-    pub(crate) events: EventQueue,
-}
+pub type WordLoader = Loader<InWords>;
 
-impl WordLoader {
+/// Words, as the form of a value.
+pub struct InWords;
+
+impl Loader<InWords> {
     /// Reads words as the spelling of a value of the type `id`, which is in the table.
     ///
     /// `Unfit` comes exactly where they are no spelling of one. The path has one number, the place
@@ -32,13 +33,13 @@ impl WordLoader {
     ) -> Result<WordLoader, LoadFault>
         requires { IsTrue (is_some (shape_at (seen table.now) id.0)) }
         ensures { (f : ShapeTree) → shape_at (seen table.now) id.0 ≡ Some f →
-            Started word_left f (λ d. Spells f d words.now) (WordsFailAt (seen table.now) id.0 words.now) result }
+            Started loader_left f (λ d. Spells f d words.now) (WordsFailAt (seen table.now) id.0 words.now) result }
     {
         let value = read_one(alloc, table, id, words)?;
         match table.shape(id) {
             Some(shape) => {
-                let events = EventQueue::of_value(alloc, shape, &value)?;
-                Ok(WordLoader { events })
+                let loader = Loader::of_value(alloc, shape, &value)?;
+                Ok(loader)
             }
             None => unreachable!(),
         }
@@ -77,49 +78,5 @@ fn load_fault(alloc: Global, fault: SpellFault) -> LoadFault
                 Err(_) => LoadFault::Memory,
             }
         }
-    }
-}
-
-impl Load for WordLoader {
-    ghost left = { word_left };
-
-    fn unit(&mut self) {
-        self.events.unit()
-    }
-
-    fn flag(&mut self) -> bool {
-        self.events.flag()
-    }
-
-    fn unsigned(&mut self) -> u64 {
-        self.events.unsigned()
-    }
-
-    fn signed(&mut self) -> i64 {
-        self.events.signed()
-    }
-
-    fn text(&mut self, alloc: Global) -> Result<Letters, Memory> {
-        self.events.text(alloc)
-    }
-
-    fn bytes(&mut self, alloc: Global) -> Result<Octets, Memory> {
-        self.events.bytes(alloc)
-    }
-
-    fn place(&mut self) -> u32 {
-        self.events.place()
-    }
-
-    fn list(&mut self) -> u64 {
-        self.events.list()
-    }
-
-    fn object(&mut self) -> u64 {
-        self.events.object()
-    }
-
-    fn field(&mut self, name: &str) {
-        self.events.field(name)
     }
 }

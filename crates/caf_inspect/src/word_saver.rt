@@ -1,31 +1,22 @@
-ghost use Rattle.std.specs.Prelude.{◌≡◌, true, List, ◌++◌, [], ◌∷◌, OnOk, IfOk};
+ghost use Rattle.std.specs.Prelude.{◌≡◌, true, []};
 ghost use Rattle.caf_types.specs.ShapeTree.{ShapeTree};
-ghost use Rattle.caf_words.specs.Datum.{Datum, fits, a_text, some_bytes};
+ghost use Rattle.caf_words.specs.Datum.{Datum, fits};
 ghost use Rattle.caf_words.specs.Spelling.{spelling, Spells};
-ghost use Rattle.caf_words.specs.Value.{datum};
-ghost use Rattle.caf_inspect.specs.Event.{Event, events};
-ghost use Rattle.caf_inspect.specs.WordForm.{all_words, SavesWords};
+ghost use Rattle.caf_events.specs.Event.{events};
+ghost use Rattle.caf_inspect.specs.WordSaver.{SavesWords};
 
-use crate::Save;
-use crate::range::{bit, bits, measured};
-use caf_types::{Letters, Memory, Seq, Words};
-use caf_words::{Value, spell};
+use caf_events::{Save, measured};
+use caf_types::{Memory, Seq, Words};
+use caf_words::{
+    write_bytes, write_flag, write_object_head, write_place, write_signed, write_text, write_unit,
+    write_word,
+};
 use std::alloc::Global;
-use std::marker::Model;
 
-/// Saves a value as words, seen as the words so far.
+/// Saves a value as words.
 #[derive(Debug, Drop)]
 pub struct WordSaver {
-    alloc: Global,
     words: Vec<u64>,
-}
-
-impl Model for WordSaver {
-    ghost use Rattle.std.specs.Prelude.{List, ℕ};
-
-    ghost Value = { List ℕ };
-
-    ghost view = { λ saver. saver.words.items };
 }
 
 impl WordSaver {
@@ -34,7 +25,6 @@ impl WordSaver {
         ensures { SavesWords result [] }
     {
         WordSaver {
-            alloc,
             words: Vec::new(alloc),
         }
     }
@@ -47,89 +37,56 @@ impl WordSaver {
     {
         Seq::of_vec(self.words)
     }
-
-    /// Adds the spelling of the value.
-    fn add_value(&mut self, value: &Value) -> Result<(), Memory>
-        ensures { OnOk result (self.new ≡ self.old ++ spelling (datum value.now)) }
-    {
-        let words = spell(self.alloc, value)?;
-        self.words.extend_from_slice(words.as_slice())?;
-        Ok(())
-    }
-
-    fn add(&mut self, word: u64) -> Result<(), Memory>
-        ensures { OnOk result (self.new ≡ self.old ++ word ∷ []) }
-    {
-        match self.words.push(word) {
-            Ok(()) => Ok(()),
-            Err(_) => Err(Memory),
-        }
-    }
-}
-
-fn text_value(alloc: Global, text: &str) -> Result<Value, Memory>
-    ensures { IfOk result (λ value. datum value ≡ a_text text.now) }
-{
-    Ok(Value::Text(Letters::of(alloc, text)?))
-}
-
-fn bytes_value(alloc: Global, bytes: &[u8]) -> Result<Value, Memory>
-    ensures { IfOk result (λ value. datum value ≡ some_bytes bytes.now) }
-{
-    let bytes = Vec::from_slice(alloc, bytes)?;
-    Ok(Value::Bytes(Seq::of_vec(bytes)))
 }
 
 impl Save for WordSaver {
     ghost told = { SavesWords };
 
     fn unit(&mut self) -> Result<(), Memory> {
-        self.add(0)?;
+        write_unit(&mut self.words)?;
         Ok(())
     }
 
     fn flag(&mut self, v: bool) -> Result<(), Memory> {
-        self.add(bit(v))?;
+        write_flag(&mut self.words, v)?;
         Ok(())
     }
 
     fn unsigned(&mut self, v: u64) -> Result<(), Memory> {
-        self.add(v)?;
+        write_word(&mut self.words, v)?;
         Ok(())
     }
 
     fn signed(&mut self, v: i64) -> Result<(), Memory> {
-        self.add(bits(v))?;
+        write_signed(&mut self.words, v)?;
         Ok(())
     }
 
     fn text(&mut self, v: &str) -> Result<(), Memory> {
         let bytes = v.as_bytes();
         let _ = measured(bytes);
-        let value = text_value(self.alloc, v)?;
-        self.add_value(&value)?;
+        write_text(&mut self.words, v)?;
         Ok(())
     }
 
     fn bytes(&mut self, v: &[u8]) -> Result<(), Memory> {
         let _ = measured(v);
-        let value = bytes_value(self.alloc, v)?;
-        self.add_value(&value)?;
+        write_bytes(&mut self.words, v)?;
         Ok(())
     }
 
     fn place(&mut self, v: u32) -> Result<(), Memory> {
-        self.add(v as u64)?;
+        write_place(&mut self.words, v)?;
         Ok(())
     }
 
     fn list(&mut self, length: u64) -> Result<(), Memory> {
-        self.add(length)?;
+        write_word(&mut self.words, length)?;
         Ok(())
     }
 
     fn object(&mut self, fields: u64) -> Result<(), Memory> {
-        self.add(fields)?;
+        write_object_head(&mut self.words, fields)?;
         Ok(())
     }
 

@@ -1,6 +1,6 @@
 use Rattle.std.proofs.Common.{◌∙◌, sym}
 use Rattle.caf_types.specs.TypeTable.{seen}
-use Rattle.caf_inspect.proofs.WordStarts.{has_shapes, found_one, refused_by}
+use Rattle.caf_inspect.proofs.WordLoaderLemmas.{has_shapes, found_one, refused_by}
 use Rattle.caf_inspect.proofs.word_loader.read_one.Goals as goal
 
 pub read-requires : goal.read-requires

@@ -1,10 +1,10 @@
 use Rattle.std.proofs.Common.{◌≡◌, ◌∙◌, ap, sym, subst, string_bytes, true≢false, false}
 use Rattle.std.specs.Str.{is_utf8}
 use Rattle.std.proofs.lemmas.Str.{is_utf8-from_IsUtf8, IsUtf8-string_bytes}
-use Rattle.caf_inspect.specs.TextSaver.{frames_of}
-use Rattle.caf_inspect.proofs.OfShapes.{is_of}
-use Rattle.caf_inspect.proofs.TextBuilding.{built_whole}
-use Rattle.caf_inspect.proofs.TextValues.{is_value}
+use Rattle.caf_inspect.specs.TextBuilder.{frames_of}
+use Rattle.caf_events.proofs.OfShapeLemmas.{is_of}
+use Rattle.caf_inspect.proofs.TextSaverLemmas.{built_whole}
+use Rattle.caf_inspect.proofs.TextValueLemmas.{is_value}
 use Rattle.caf_inspect.proofs.text_saver.TextSaver.finish.Goals as goal
 
 pub unreachable-requires : goal.unreachable-requires

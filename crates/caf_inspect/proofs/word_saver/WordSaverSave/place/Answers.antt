@@ -1,5 +1,5 @@
-use Rattle.caf_inspect.proofs.WordTelling.{word_told}
+use Rattle.caf_inspect.proofs.WordTellingLemmas.{word_told}
 use Rattle.caf_inspect.proofs.word_saver.WordSaverSave.place.Goals as goal
 
-pub returns : goal.returns
-returns c = word_told c.in_ok-add.ensures tt
+pub returns-clause-added : goal.returns-clause-added
+returns-clause-added c = word_told c.in_ok-write_place.ensures.spelled tt

@@ -1,6 +1,5 @@
-use Rattle.std.proofs.Common.{arith}
-use Rattle.caf_inspect.proofs.WordTelling.{word_told}
+use Rattle.caf_inspect.proofs.WordTellingLemmas.{word_told}
 use Rattle.caf_inspect.proofs.word_saver.WordSaverSave.unsigned.Goals as goal
 
-pub returns : goal.returns
-returns c = word_told c.in_ok-add.ensures (omega (arith, c.ranges.v))
+pub returns-clause-added : goal.returns-clause-added
+returns-clause-added c = word_told c.in_ok-write_word.ensures.spelled c.in_ok-write_word.ensures.in_range

@@ -1,0 +1,6 @@
+pub mod OfShapeLemmas
+pub mod RangeLemmas
+pub mod TellingLemmas
+pub mod LoopLemmas
+pub mod TakingLemmas
+pub mod ValueLemmas

@@ -1,6 +1,0 @@
-use Rattle.std.proofs.Common.{arith}
-use Rattle.caf_inspect.proofs.JsonTelling.{json_told}
-use Rattle.caf_inspect.proofs.json_saver.JsonSaverSave.object.Goals as goal
-
-pub returns : goal.returns
-returns c = json_told c.in_ok-open_object.ensures (omega (arith, c.ranges.fields))

@@ -1,8 +1,0 @@
-use Rattle.std.proofs.Common.{◌∙◌, ap, arith}
-use Rattle.caf_inspect.specs.TextSaver.{frames_of}
-use Rattle.caf_inspect.specs.TextStack.{give}
-use Rattle.caf_inspect.proofs.TextTelling.{text_told}
-use Rattle.caf_inspect.proofs.text_saver.TextSaverSave.unsigned.Goals as goal
-
-pub returns : goal.returns
-returns c = text_told (c.in_ok-close.ensures ∙ ap (give (frames_of c.args.self.now.parts.items)) c.in_ok-add_unsigned.ensures) (omega (arith, c.ranges.v))

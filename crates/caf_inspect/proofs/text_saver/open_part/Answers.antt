@@ -1,7 +1,0 @@
-use Rattle.std.proofs.Common.{◌∙◌, ap}
-use Rattle.caf_inspect.specs.TextSaver.{frames_of}
-use Rattle.caf_inspect.proofs.TextTelling.{last_first}
-use Rattle.caf_inspect.proofs.text_saver.open_part.Goals as goal
-
-pub returns : goal.returns
-returns c = ap frames_of c.in_ok-add_part.ensures ∙ last_first c.args.parts.now.items c.args.part

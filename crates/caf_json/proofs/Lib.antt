@@ -1,0 +1,9 @@
+pub mod DigitsLemmas
+pub mod DigitsLoopLemmas
+pub mod FormLemmas
+pub mod ReadingLemmas
+pub mod RefusalLemmas
+pub mod MadeLemmas
+pub mod BuildingLemmas
+pub mod BuilderLemmas
+pub mod SaverLemmas
