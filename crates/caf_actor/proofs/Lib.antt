@@ -10,3 +10,10 @@ pub mod DueLemmas
 pub mod TickLemmas
 pub mod AnswerLemmas
 pub mod QuitLemmas
+pub mod ExampleActors
+pub mod BatchExamples
+pub mod TickingExamples
+pub mod RecordExamples
+pub mod RunExamples
+pub mod CloserExample
+pub mod TickExamples
