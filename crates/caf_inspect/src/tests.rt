@@ -8,7 +8,7 @@ use crate::{
     Inspect, Json, JsonLoader, Load, LoadFault, Save, WordLoader, from_json, from_text, from_words,
     to_json, to_text, to_words,
 };
-use caf_events::{load_fields, one_type, save_fields};
+use caf_events::{load_fields, one_type};
 use caf_types::{Letters, Memory, TypeId, TypeTable, type_block};
 use std::alloc::Global;
 use std::test::Fail;
@@ -40,7 +40,14 @@ impl Inspect for Summary {
     }
 
     fn save<S: Save>(&self, saver: &mut S) -> Result<(), Memory> {
-        summary_fields!(save_fields, self, saver)
+        saver.object(3)?;
+        saver.field("words")?;
+        saver.unsigned(self.words)?;
+        saver.field("postings")?;
+        saver.unsigned(self.postings)?;
+        saver.field("name")?;
+        saver.text(self.name.as_str())?;
+        Ok(())
     }
 
     fn load<L: Load>(alloc: Global, loader: &mut L) -> Result<Summary, Memory> {
