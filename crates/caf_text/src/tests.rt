@@ -95,3 +95,14 @@ fn a_bad_text_is_refused_behind_its_longest_front(rt: HostRuntime) -> Result<(),
     }
     Ok(())
 }
+
+#[test]
+fn faults_tell_what_they_carry(rt: HostRuntime) -> Result<(), Fail> {
+    for (fault, text) in [
+        (TextFault::At(8), "no text form: fault behind byte 8"),
+        (TextFault::Memory, "out of memory"),
+    ] {
+        assert_eq!(rt; format!(in rt.alloc(); "{fault}")?.as_str(), text);
+    }
+    Ok(())
+}
