@@ -1,15 +1,20 @@
 -- The laws of behaviours, for scripted ones.
-use Rattle.std.specs.Prelude.{◌≡◌, ℕ, ◌+◌, ◌≤◌, ◌<◌, nat_le, bytes_eq, if◌then◌else◌, Bool, true, false, List, [], ◌∷◌, ◌++◌, length, Option, Some, None, refl, Contains}
+use Rattle.std.specs.Prelude.{◌≡◌, ℕ, ◌+◌, ◌≤◌, ◌<◌, nat_le, bytes_eq, if◌then◌else◌, Bool, true, false, List, [], ◌∷◌, ◌++◌, length, map, codes, cond, min, Option, Some, None, refl, Contains}
 use Rattle.std.proofs.Common.{zero, suc, ◌||◌, slice_index_or, ap, sym, ◌∙◌, arith}
 use Rattle.std.proofs.lemmas.Bool.{lt-ltb, leb-true}
 use Rattle.std.proofs.lemmas.Slice.Eq.{bytes_eq-Decides}
 use Rattle.std.specs.List.{AllByRecursion, list_any}
-use Rattle.caf_types.specs.ShapeTree.{ShapeTree}
-use Rattle.caf_types.specs.Table.{shape_at}
+use Rattle.std.specs.FinMap as finite
+use Rattle.std.specs.Option.{option_map}
+use Rattle.std.specs.Cmp.{nat_cmp_total}
+use Rattle.caf_types.specs.ShapeTree.{ShapeTree, unsigned}
+use Rattle.caf_types.specs.Table.{Named, Table, shape_at, named}
 use Rattle.caf_types.specs.declared.sec.Sec.TheVariants as sec
+use Rattle.caf_types.specs.declared.reason.Reason.{Reason}
 use Rattle.caf_words.specs.Several.{ids_of}
+use Rattle.caf_words.specs.Datum.{an_unsigned, no_data, more}
 use Rattle.caf_message.specs.Content.{ids_in}
-use Rattle.caf_message.specs.Entries.{TableEntries, entry_shape}
+use Rattle.caf_message.specs.Entries.{HasEntries, entry_shape}
 use Rattle.caf_message.specs.Fits.{Fits}
 use Rattle.caf_signature.specs.declared.interface.Signature.{Signature}
 use Rattle.caf_actor.specs.declared.origin.Origin.{Origin}
@@ -18,16 +23,19 @@ use Rattle.caf_actor.specs.PlainInput.{PlainInput, Start, Stop, Content, Respons
 use Rattle.caf_actor.specs.PlainOutput.{PlainOutput}
 use Rattle.caf_actor.specs.PlainReaction.{PlainAnswer, PlainReaction}
 use Rattle.caf_actor.specs.PlainReaction as answer
-use Rattle.caf_actor.specs.Rules.{InputFits, OutputFits, AnswerFits, ReactionFits, IsTarget, signature_for, declared_for, is_input, output_targets, answer_targets, outputs_count, StaysValid, StaysSameActor, SkipsInputs, FitsItsTable, FitsItsEntries, AnswersRequests, AnswersAsDeclared, DelegatesAsTold, SendsToPeers, SendsFew, TicksAtTicks, StopsWithExits, IsNoTick}
+use Rattle.caf_actor.specs.Rules.{InputFits, OutputFits, AnswerFits, ReactionFits, IsTarget, HasTargets, signature_for, declared_for, is_input, output_targets, answer_targets, outputs_count, StaysValid, StaysSameActor, SkipsInputs, FitsItsTable, FitsItsEntries, AnswersRequests, AnswersAsDeclared, DelegatesAsTold, SendsToPeers, SendsFew, TicksAtTicks, StopsWithExits, IsNoTick, IsExit}
 use Rattle.caf_actor.proofs.InterfaceLemmas.{found_takes}
 use Rattle.caf_scripted.specs.declared.act.Act.{Act}
 use Rattle.caf_scripted.specs.declared.act.Sending.{Sending}
 use Rattle.caf_scripted.specs.declared.act.Sending.TheVariants as sending
 use Rattle.caf_scripted.specs.declared.act.Reply.{Reply}
 use Rattle.caf_scripted.specs.declared.act.Reply.TheVariants as reply
-use Rattle.caf_scripted.specs.Script.{last_act, is_delegate, passes_on}
+use Rattle.caf_scripted.specs.declared.act.Cue.{Cue}
+use Rattle.caf_scripted.specs.declared.act.Signal.{Signal}
+use Rattle.caf_scripted.specs.declared.act.Signal.TheVariants as signal
+use Rattle.caf_scripted.specs.Script.{last_act, is_delegate, passes_on, no_tick, without_ticks, exits_alone}
 use Rattle.caf_scripted.specs.declared.scripted.Scripted.{Scripted}
-use Rattle.caf_scripted.specs.Scripted.{act_now, first_peer, takes_first, echo_by, ignore, few, answer_by, output_by, outputs_by, reaction_to, reaction, scripted_rules}
+use Rattle.caf_scripted.specs.Scripted.{act_now, first_peer, takes_first, echo_by, ignore, few, answer_by, output_by, outputs_by, reaction_to, cue_now, number_content, own_origin, signal_output, signals_by, reaction_by, reaction, scripted_rules, scripted_entries}
 
 abbrev pub AnyValue : Scripted → Type 0
 AnyValue s = Unit {0}
@@ -107,20 +115,50 @@ both_fit shape_of (x ∷ xs) ys h k = (h.0, both_fit shape_of xs ys h.1 k)
 reaction_fits : (shape_of : ℕ → Option ShapeTree) (s : Scripted) (to : ℕ) (origin : Origin) (words : List ℕ) (a : Act) → Fits shape_of words → ReactionFits shape_of (reaction_to s to origin words a)
 reaction_fits shape_of s to origin words a h = record { outputs = both_fit shape_of (outputs_by s to origin words a.sending) (outputs_by s to origin words a.afterwards) (outputs_fit shape_of s to origin words a.sending h) (outputs_fit shape_of s to origin words a.afterwards h); answer = answer_fits shape_of s to origin words a.reply h }
 
-all_fit : (shape_of : ℕ → Option ShapeTree) (s : Scripted) (i : PlainInput) → InputFits shape_of i → ReactionFits shape_of (reaction s i)
-all_fit shape_of s Start h = record { outputs = tt; answer = tt }
-all_fit shape_of s Stop h = record { outputs = tt; answer = tt }
-all_fit shape_of s (Content origin words) h = reaction_fits shape_of s (first_peer s.place s.peers) origin words (act_now s) h
-all_fit shape_of s (Response tag words) h = record { outputs = tt; answer = tt }
-all_fit shape_of s (Failed tag why) h = record { outputs = tt; answer = tt }
-all_fit shape_of s (Down place why) h = record { outputs = tt; answer = tt }
-all_fit shape_of s Tick h = record { outputs = tt; answer = tt }
+number_fits : (shape_of : ℕ → Option ShapeTree) → shape_of 2 ≡ Some unsigned → (n : ℕ) → Fits shape_of (number_content n)
+number_fits shape_of known n = record {
+  ids = 2 ∷ [];
+  values = more (an_unsigned (min n 18446744073709551615)) no_data;
+  means = record {
+    shapes = unsigned ∷ [];
+    have_shapes = ap (λ (o : Option ShapeTree). o ∷ []) known;
+    are_values = (an_unsigned (min n 18446744073709551615), no_data, refl, min n 18446744073709551615 ∷ [], [], (min n 18446744073709551615, omega arith, refl, refl), (refl, refl), refl);
+    words_are = refl;
+  };
+}
 
-pub fits_its_table : (entries : TableEntries) → FitsItsTable AnyValue scripted_rules entries
-fits_its_table entries t s i has valid given h = all_fit (shape_at t) s i h
+signals_fit : (shape_of : ℕ → Option ShapeTree) (what : Signal) (places : List ℕ) → AllByRecursion (OutputFits shape_of) (map (signal_output what) places)
+signals_fit shape_of what [] = tt
+signals_fit shape_of (signal.Exit why) (p ∷ ps) = (tt, signals_fit shape_of (signal.Exit why) ps)
+signals_fit shape_of signal.Tick (p ∷ ps) = (tt, signals_fit shape_of signal.Tick ps)
 
-pub fits_its_entries : (entries : TableEntries) → FitsItsEntries AnyValue scripted_rules entries
-fits_its_entries entries s i valid given h = all_fit (entry_shape entries) s i h
+signals_by_fit : (shape_of : ℕ → Option ShapeTree) (peers : List ℕ) (what : Option Signal) → AllByRecursion (OutputFits shape_of) (signals_by peers what)
+signals_by_fit shape_of peers None = tt
+signals_by_fit shape_of peers (Some what) = signals_fit shape_of what (few peers)
+
+cue_fits : (shape_of : ℕ → Option ShapeTree) → shape_of 2 ≡ Some unsigned → (s : Scripted) (c : Cue) → ReactionFits shape_of (reaction_by s c)
+cue_fits shape_of known s c =
+    let to = first_peer s.place s.peers in
+    let words = number_content c.number in
+    record { outputs = both_fit shape_of (outputs_by s to (own_origin s.place) words c.sending) (signals_by s.peers c.signal) (outputs_fit shape_of s to (own_origin s.place) words c.sending (number_fits shape_of known c.number)) (signals_by_fit shape_of s.peers c.signal); answer = tt }
+
+all_fit : (shape_of : ℕ → Option ShapeTree) → shape_of 2 ≡ Some unsigned → (s : Scripted) (i : PlainInput) → InputFits shape_of i → ReactionFits shape_of (reaction s i)
+all_fit shape_of known s Start h = cue_fits shape_of known s (without_ticks (cue_now s))
+all_fit shape_of known s Stop h = cue_fits shape_of known s (exits_alone (cue_now s))
+all_fit shape_of known s (Content origin words) h = reaction_fits shape_of s (first_peer s.place s.peers) origin words (act_now s) h
+all_fit shape_of known s (Response tag words) h = cue_fits shape_of known s (without_ticks (cue_now s))
+all_fit shape_of known s (Failed tag why) h = cue_fits shape_of known s (without_ticks (cue_now s))
+all_fit shape_of known s (Down place why) h = cue_fits shape_of known s (without_ticks (cue_now s))
+all_fit shape_of known s Tick h = cue_fits shape_of known s (cue_now s)
+
+entry_is_there : finite.get scripted_entries 2 ≡ Some (named (codes "unsigned") unsigned)
+entry_is_there = finite.get-insert nat_cmp_total finite.empty 2 (named (codes "unsigned") unsigned) 2
+
+pub fits_its_table : FitsItsTable AnyValue scripted_rules scripted_entries
+fits_its_table t s i has valid given h = all_fit (shape_at t) (ap (option_map (λ (n : Named). n.shape)) (has 2 (named (codes "unsigned") unsigned) entry_is_there)) s i h
+
+pub fits_its_entries : FitsItsEntries AnyValue scripted_rules scripted_entries
+fits_its_entries s i valid given h = all_fit (entry_shape scripted_entries) (ap (option_map (λ (n : Named). n.shape)) entry_is_there) s i h
 
 -- ---- answers
 
@@ -267,17 +305,32 @@ both_are : (s : Scripted) (xs ys : List PlainOutput) → AllByRecursion (λ o. A
 both_are s [] ys h k = k
 both_are s (x ∷ xs) ys h k = (h.0, both_are s xs ys h.1 k)
 
+signals_targets_are : (s : Scripted) (what : Signal) (places : List ℕ) → AllByRecursion (IsTarget scripted_rules s) places → AllByRecursion (λ o. AllByRecursion (IsTarget scripted_rules s) (output_targets o)) (map (signal_output what) places)
+signals_targets_are s what [] h = tt
+signals_targets_are s (signal.Exit why) (p ∷ ps) h = ((h.0, tt), signals_targets_are s (signal.Exit why) ps h.1)
+signals_targets_are s signal.Tick (p ∷ ps) h = ((h.0, tt), signals_targets_are s signal.Tick ps h.1)
+
+signals_by_targets_are : (s : Scripted) (what : Option Signal) → AllByRecursion (λ o. AllByRecursion (IsTarget scripted_rules s) (output_targets o)) (signals_by s.peers what)
+signals_by_targets_are s None = tt
+signals_by_targets_are s (Some what) = signals_targets_are s what (few s.peers) (few_are_targets s)
+
+cue_has_targets : (s : Scripted) (c : Cue) → HasTargets scripted_rules s (reaction_by s c)
+cue_has_targets s c =
+    let to = first_peer s.place s.peers in
+    let words = number_content c.number in
+    record { outputs = both_are s (outputs_by s to (own_origin s.place) words c.sending) (signals_by s.peers c.signal) (outputs_targets_are s to (own_origin s.place) words c.sending (first_peer_is_target s)) (signals_by_targets_are s c.signal); answer = tt }
+
 pub sends_to_peers : SendsToPeers AnyValue scripted_rules
-sends_to_peers s Start valid given = record { outputs = tt; answer = tt }
-sends_to_peers s Stop valid given = record { outputs = tt; answer = tt }
+sends_to_peers s Start valid given = cue_has_targets s (without_ticks (cue_now s))
+sends_to_peers s Stop valid given = cue_has_targets s (exits_alone (cue_now s))
 sends_to_peers s (Content origin words) valid given =
     let to = first_peer s.place s.peers in
     let h = first_peer_is_target s in
     record { outputs = both_are s (outputs_by s to origin words (act_now s).sending) (outputs_by s to origin words (act_now s).afterwards) (outputs_targets_are s to origin words (act_now s).sending h) (outputs_targets_are s to origin words (act_now s).afterwards h); answer = answer_targets_are s to origin words (act_now s).reply h }
-sends_to_peers s (Response tag words) valid given = record { outputs = tt; answer = tt }
-sends_to_peers s (Failed tag why) valid given = record { outputs = tt; answer = tt }
-sends_to_peers s (Down place why) valid given = record { outputs = tt; answer = tt }
-sends_to_peers s Tick valid given = record { outputs = tt; answer = tt }
+sends_to_peers s (Response tag words) valid given = cue_has_targets s (without_ticks (cue_now s))
+sends_to_peers s (Failed tag why) valid given = cue_has_targets s (without_ticks (cue_now s))
+sends_to_peers s (Down place why) valid given = cue_has_targets s (without_ticks (cue_now s))
+sends_to_peers s Tick valid given = cue_has_targets s (cue_now s)
 
 -- ---- how many
 
@@ -311,22 +364,50 @@ both_count : (xs ys : List PlainOutput) → outputs_count (xs ++ ys) ≡ outputs
 both_count [] ys = omega arith
 both_count (x ∷ xs) ys = let later = both_count xs ys in omega arith
 
+signals_few : (what : Signal) (places : List ℕ) → outputs_count (map (signal_output what) places) ≤ length places
+signals_few what [] = omega arith
+signals_few (signal.Exit why) (p ∷ ps) = let later = signals_few (signal.Exit why) ps in omega arith
+signals_few signal.Tick (p ∷ ps) = let later = signals_few signal.Tick ps in omega arith
+
+signals_by_few : (peers : List ℕ) (what : Option Signal) → outputs_count (signals_by peers what) ≤ 512
+signals_by_few peers None = omega arith
+signals_by_few peers (Some what) =
+    let each = signals_few what (few peers) in
+    let all = few_length peers in
+    omega arith
+
+cue_is_few : (s : Scripted) (c : Cue) → outputs_count (reaction_by s c).outputs ≤ 1024
+cue_is_few s c =
+    let first = outputs_few s (first_peer s.place s.peers) (own_origin s.place) (number_content c.number) c.sending in
+    let second = signals_by_few s.peers c.signal in
+    let sum = both_count (outputs_by s (first_peer s.place s.peers) (own_origin s.place) (number_content c.number) c.sending) (signals_by s.peers c.signal) in
+    omega arith
+
 pub sends_few : SendsFew AnyValue scripted_rules
-sends_few s Start valid given = omega arith
-sends_few s Stop valid given = omega arith
+sends_few s Start valid given = cue_is_few s (without_ticks (cue_now s))
+sends_few s Stop valid given = cue_is_few s (exits_alone (cue_now s))
 sends_few s (Content origin words) valid given =
     let to = first_peer s.place s.peers in
     let first = outputs_few s to origin words (act_now s).sending in
     let second = outputs_few s to origin words (act_now s).afterwards in
     let sum = both_count (outputs_by s to origin words (act_now s).sending) (outputs_by s to origin words (act_now s).afterwards) in
     omega arith
-sends_few s (Response tag words) valid given = omega arith
-sends_few s (Failed tag why) valid given = omega arith
-sends_few s (Down place why) valid given = omega arith
-sends_few s Tick valid given = omega arith
+sends_few s (Response tag words) valid given = cue_is_few s (without_ticks (cue_now s))
+sends_few s (Failed tag why) valid given = cue_is_few s (without_ticks (cue_now s))
+sends_few s (Down place why) valid given = cue_is_few s (without_ticks (cue_now s))
+sends_few s Tick valid given = cue_is_few s (cue_now s)
+
+exits_are_exits : (why : Reason) (places : List ℕ) → AllByRecursion IsExit (map (signal_output (signal.Exit why)) places)
+exits_are_exits why [] = tt
+exits_are_exits why (p ∷ ps) = (tt, exits_are_exits why ps)
+
+calm_is_exits : (peers : List ℕ) (what : Option Signal) → AllByRecursion IsExit (signals_by peers (no_tick what))
+calm_is_exits peers None = tt
+calm_is_exits peers (Some (signal.Exit why)) = exits_are_exits why (few peers)
+calm_is_exits peers (Some signal.Tick) = tt
 
 pub stops_with_exits : StopsWithExits AnyValue scripted_rules
-stops_with_exits s valid = tt
+stops_with_exits s valid = calm_is_exits s.peers (cue_now s).signal
 
 -- ---- delegations, and ticks that are handed on
 
@@ -386,11 +467,27 @@ no_ticks s to origin words None (Some b) = (output_is_no_tick s to origin words 
 no_ticks s to origin words (Some a) None = (output_is_no_tick s to origin words a, tt)
 no_ticks s to origin words (Some a) (Some b) = (output_is_no_tick s to origin words a, (output_is_no_tick s to origin words b, tt))
 
+exits_are_no_ticks : (why : Reason) (places : List ℕ) → AllByRecursion IsNoTick (map (signal_output (signal.Exit why)) places)
+exits_are_no_ticks why [] = tt
+exits_are_no_ticks why (p ∷ ps) = (tt, exits_are_no_ticks why ps)
+
+calm_has_no_ticks : (peers : List ℕ) (what : Option Signal) → AllByRecursion IsNoTick (signals_by peers (no_tick what))
+calm_has_no_ticks peers None = tt
+calm_has_no_ticks peers (Some (signal.Exit why)) = exits_are_no_ticks why (few peers)
+calm_has_no_ticks peers (Some signal.Tick) = tt
+
+sending_first : (s : Scripted) (to : ℕ) (origin : Origin) (words : List ℕ) (first : Option Sending) (others : List PlainOutput) → AllByRecursion IsNoTick others → AllByRecursion IsNoTick (outputs_by s to origin words first ++ others)
+sending_first s to origin words None others h = h
+sending_first s to origin words (Some what) others h = (output_is_no_tick s to origin words what, h)
+
+cue_has_no_ticks : (s : Scripted) (c : Cue) → AllByRecursion IsNoTick (reaction_by s (without_ticks c)).outputs
+cue_has_no_ticks s c = sending_first s (first_peer s.place s.peers) (own_origin s.place) (number_content c.number) c.sending (signals_by s.peers (no_tick c.signal)) (calm_has_no_ticks s.peers c.signal)
+
 pub ticks_at_ticks : TicksAtTicks AnyValue scripted_rules
-ticks_at_ticks s Start valid given other = tt
-ticks_at_ticks s Stop valid given other = tt
+ticks_at_ticks s Start valid given other = cue_has_no_ticks s (cue_now s)
+ticks_at_ticks s Stop valid given other = calm_has_no_ticks s.peers (cue_now s).signal
 ticks_at_ticks s (Content origin words) valid given other = no_ticks s (first_peer s.place s.peers) origin words (act_now s).sending (act_now s).afterwards
-ticks_at_ticks s (Response tag words) valid given other = tt
-ticks_at_ticks s (Failed tag why) valid given other = tt
-ticks_at_ticks s (Down place why) valid given other = tt
-ticks_at_ticks s Tick valid given other = tt
+ticks_at_ticks s (Response tag words) valid given other = cue_has_no_ticks s (cue_now s)
+ticks_at_ticks s (Failed tag why) valid given other = cue_has_no_ticks s (cue_now s)
+ticks_at_ticks s (Down place why) valid given other = cue_has_no_ticks s (cue_now s)
+ticks_at_ticks s Tick valid given other = absurd cc

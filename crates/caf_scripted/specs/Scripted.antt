@@ -1,9 +1,15 @@
 -- What a scripted behaviour does.
-use Rattle.std.specs.Prelude.{ℕ, ◌+◌, ◌&&◌, nat_le, bytes_eq, if◌then◌else◌, Bool, false, List, [], ◌∷◌, ◌++◌, length, min, Option, Some, None, slice_index_or, unwrap_or}
+use Rattle.std.specs.Prelude.{ℕ, ◌+◌, ◌&&◌, nat_le, bytes_eq, if◌then◌else◌, Bool, false, List, [], ◌∷◌, ◌++◌, length, min, Option, Some, None, slice_index_or, unwrap_or, map, codes}
 use Rattle.std.specs.List.{list_any}
+use Rattle.std.specs.FinMap as finite
+use Rattle.std.specs.Ordering.{nat_cmp}
+use Rattle.caf_types.specs.ShapeTree.{unsigned}
+use Rattle.caf_types.specs.Table.{Named, named}
+use Rattle.caf_types.specs.declared.notice.Priority.TheVariants as priority
 use Rattle.caf_types.specs.declared.sec.Sec.TheVariants as sec
 use Rattle.caf_words.specs.Several.{ids_of}
 use Rattle.caf_message.specs.Content.{ids_in}
+use Rattle.caf_message.specs.Entries.{TableEntries}
 use Rattle.caf_signature.specs.declared.interface.Signature.{Signature}
 use Rattle.caf_actor.specs.declared.origin.Origin.{Origin}
 use Rattle.caf_actor.specs.Answering.{is_asked}
@@ -18,7 +24,10 @@ use Rattle.caf_scripted.specs.declared.act.Sending.{Sending}
 use Rattle.caf_scripted.specs.declared.act.Sending.TheVariants as sending
 use Rattle.caf_scripted.specs.declared.act.Reply.{Reply}
 use Rattle.caf_scripted.specs.declared.act.Reply.TheVariants as reply
-use Rattle.caf_scripted.specs.Script.{last_act, passes_on}
+use Rattle.caf_scripted.specs.declared.act.Cue.{Cue}
+use Rattle.caf_scripted.specs.declared.act.Signal.{Signal}
+use Rattle.caf_scripted.specs.declared.act.Signal.TheVariants as signal
+use Rattle.caf_scripted.specs.Script.{last_act, passes_on, no_cue, without_ticks, exits_alone}
 use Rattle.caf_scripted.specs.declared.act.Note.{Note}
 use Rattle.caf_scripted.specs.declared.act.Note.TheVariants as note
 use Rattle.caf_scripted.specs.declared.scripted.Scripted.{Scripted}
@@ -28,6 +37,10 @@ use Rattle.caf_scripted.specs.declared.scripted.Scripted.{Scripted}
 -- one act for each content, in order; after the last one it echoes
 abbrev pub act_now : Scripted → Act
 act_now s = slice_index_or s.acts s.done last_act
+
+-- one cue for each input that is no content, in order: as many were given as there are notes
+abbrev pub cue_now : Scripted → Cue
+cue_now s = slice_index_or s.cues (length s.notes) no_cue
 
 -- the first peer, or itself
 abbrev pub first_peer : ℕ → List ℕ → ℕ
@@ -89,12 +102,35 @@ outputs_by s to origin words (Some what) = output_by s to origin words what ∷ 
 abbrev pub reaction_to : Scripted → ℕ → Origin → List ℕ → Act → PlainReaction
 reaction_to s to origin words a = record { outputs = outputs_by s to origin words a.sending ++ outputs_by s to origin words a.afterwards; answer = answer_by s to origin words a.reply; quit = a.quit }
 
-abbrev pub no_reaction : PlainReaction
-no_reaction = record { outputs = []; answer = answer.Nothing; quit = None }
+-- ---- reactions to what is no content
+
+-- the content of one number of 64 bits
+abbrev pub number_content : ℕ → List ℕ
+number_content n = 1 ∷ 2 ∷ min n 18446744073709551615 ∷ []
+
+-- where that content comes from
+abbrev pub own_origin : ℕ → Origin
+own_origin place = record { sender = place; mid = record { requester = place; number = 0; response = false }; priority = priority.Normal }
+
+abbrev pub signal_output : Signal → ℕ → PlainOutput
+signal_output (signal.Exit why) to = output.Exit to why
+signal_output signal.Tick to = output.Tick to
+
+abbrev pub signals_by : List ℕ → Option Signal → List PlainOutput
+signals_by peers None = []
+signals_by peers (Some what) = map (signal_output what) (few peers)
+
+abbrev pub reaction_by : Scripted → Cue → PlainReaction
+reaction_by s c = record { outputs = outputs_by s (first_peer s.place s.peers) (own_origin s.place) (number_content c.number) c.sending ++ signals_by s.peers c.signal; answer = answer.Nothing; quit = c.quit }
 
 abbrev pub reaction : Scripted → PlainInput → PlainReaction
 reaction s (Content origin words) = reaction_to s (first_peer s.place s.peers) origin words (act_now s)
-reaction s _ = no_reaction
+reaction s Stop = reaction_by s (exits_alone (cue_now s))
+reaction s Tick = reaction_by s (cue_now s)
+reaction s Start = reaction_by s (without_ticks (cue_now s))
+reaction s (Response tag words) = reaction_by s (without_ticks (cue_now s))
+reaction s (Failed tag why) = reaction_by s (without_ticks (cue_now s))
+reaction s (Down place why) = reaction_by s (without_ticks (cue_now s))
 
 -- ---- the next value
 
@@ -112,6 +148,10 @@ next s (Response tag words) = noted s (note.Responded tag)
 next s (Failed tag why) = noted s (note.Failed tag why)
 next s (Down place why) = noted s (note.Down place why)
 next s Tick = noted s note.Ticked
+
+-- the type of the numbers that it sends
+abbrev pub scripted_entries : TableEntries
+scripted_entries = finite.insert (finite.empty {X = Named} {R = nat_cmp}) 2 (named (codes "unsigned") unsigned)
 
 -- some act passes its content on
 abbrev pub delegates : Scripted → List ℕ → Bool

@@ -1,5 +1,5 @@
 ghost use Rattle.std.specs.Prelude.{◌≡◌};
-ghost use Rattle.caf_scripted.specs.Script.{only, passes_on};
+ghost use Rattle.caf_scripted.specs.Script.{only, passes_on, no_cue, without_ticks, exits_alone};
 
 use caf_response::Mode;
 use caf_types::{Reason, Sec, TypeId};
@@ -68,6 +68,28 @@ pub enum Reply {
     Hold,
 }
 
+/// What a scripted behaviour does at one input that is no content. It answers nothing.
+#[derive(Clone, Copy, Debug, PartialEq, Eq, Drop)]
+pub struct Cue {
+    /// What it sends first. At [`Input::Stop`](caf_actor::Input::Stop) it sends none.
+    pub sending: Option<Sending>,
+    /// The content that it sends: one element of type `unsigned`, with normal priority.
+    pub number: u64,
+    /// What it sends then to each peer, where these are at most 512.
+    pub signal: Option<Signal>,
+    /// The reason to quit, if it quits.
+    pub quit: Option<Reason>,
+}
+
+/// What each peer is sent.
+#[derive(Clone, Copy, Debug, PartialEq, Eq, Drop)]
+pub enum Signal {
+    /// An exit notice.
+    Exit(Reason),
+    /// A tick, where one has come. At any other input it is none.
+    Tick,
+}
+
 /// What a scripted behaviour remembers of an input that is no content.
 #[derive(Clone, Copy, Debug, PartialEq, Eq, Drop)]
 pub enum Note {
@@ -103,6 +125,42 @@ impl Act {
             reply,
             sleeps: None,
             quit: None,
+        }
+    }
+}
+
+impl Cue {
+    /// Does nothing.
+    pub const fn none() -> Cue
+        ensures { result ≡ no_cue }
+    {
+        Cue {
+            sending: None,
+            number: 0,
+            signal: None,
+            quit: None,
+        }
+    }
+
+    /// The same, but that it hands no tick on.
+    pub(crate) fn without_ticks(self) -> Cue
+        ensures { result ≡ without_ticks self }
+    {
+        let signal = match self.signal {
+            Some(Signal::Exit(reason)) => Some(Signal::Exit(reason)),
+            Some(Signal::Tick) | None => None,
+        };
+        Cue { signal, ..self }
+    }
+
+    /// Its exit notices alone.
+    pub(crate) fn exits_alone(self) -> Cue
+        ensures { result ≡ exits_alone self }
+    {
+        let calm = self.without_ticks();
+        Cue {
+            sending: None,
+            ..calm
         }
     }
 }

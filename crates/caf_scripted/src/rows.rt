@@ -1,4 +1,4 @@
-//! The contents of the tests.
+//! The contents that scripted actors get and send.
 ghost use Rattle.std.specs.Prelude.{[], ◌∷◌, refl};
 ghost use Rattle.caf_types.specs.ShapeTree.{unit, unsigned};
 ghost use Rattle.caf_words.specs.Datum.{a_unit, an_unsigned, no_data, more};
@@ -9,7 +9,10 @@ use std::alloc::Global;
 
 /// One element of type `unsigned`.
 #[derive(Drop)]
-pub(crate) struct Number(pub(crate) u64);
+pub struct Number(
+    /// Its value.
+    pub u64,
+);
 
 impl Row for Number {
     ghost ids = { 2 ∷ [] };
@@ -46,7 +49,7 @@ impl Row for Number {
 
 /// One element of type `unit`.
 #[derive(Drop)]
-pub(crate) struct Nothing;
+pub struct Nothing;
 
 impl Row for Nothing {
     ghost ids = { 0 ∷ [] };

@@ -1,21 +1,21 @@
 ghost use Rattle.std.specs.Prelude.{◌≡◌, ◌++◌, IfOk, OnOk, map, bytes_eq};
-ghost use Rattle.std.specs.FinMap as finite;
 ghost use Rattle.caf_words.specs.Several.{ids_of};
 ghost use Rattle.caf_actor.specs.PlainForms.{plain_answer, plain_output, plain_reaction};
 ghost use Rattle.caf_scripted.specs.Laws.{AnyValue};
 ghost use Rattle.caf_scripted.specs.Laws as laws;
-ghost use Rattle.caf_scripted.specs.Scripted.{scripted_rules, act_now, first_peer, takes_first, few, answer_by, output_by, outputs_by, echo, reaction_to, no_reaction, acted, noted};
+ghost use Rattle.caf_scripted.specs.Scripted.{scripted_rules, act_now, first_peer, takes_first, few, answer_by, output_by, outputs_by, echo, reaction_to, acted, cue_now, number_content, own_origin, signal_output, signals_by, reaction_by, noted, scripted_entries};
 
-use crate::{Act, Note, Reply, Sending};
+use crate::rows::Number;
+use crate::{Act, Cue, Note, Reply, Sending, Signal};
 use caf_actor::laws::another_message;
 use caf_actor::{Answer, Behavior, Input, Origin, Output, Reaction, signature_of};
-use caf_message::{Entries, Message};
+use caf_message::{Entries, Message, MessageFault};
 use caf_signature::Interface;
-use caf_types::{Memory, Places, Sec, Seq, TypeId, TypeIds, TypeTable};
+use caf_types::{Memory, Mid, Places, Priority, Sec, Seq, TypeId, TypeIds, TypeTable};
 use std::alloc::Global;
 
-/// A behaviour that does the acts of a script, one for each content, in order. After the last one it
-/// echoes.
+/// A behaviour that does what a script says: an act for each content, in order, and a cue for each
+/// other input, in order. After the last act it echoes, and after the last cue it does nothing.
 ///
 /// While it sleeps it keeps the first input of its interface for later.
 #[derive(Debug, Drop)]
@@ -30,6 +30,8 @@ pub struct Scripted {
     pub interface: Interface,
     /// What it does, content by content.
     pub acts: Seq<Act>,
+    /// What it does at the other inputs, input by input.
+    pub cues: Seq<Cue>,
     /// How many contents it was given.
     pub done: u64,
     /// Whether it keeps the first input of its interface for later.
@@ -39,7 +41,7 @@ pub struct Scripted {
 }
 
 impl Entries for Scripted {
-    ghost entries = { finite.empty };
+    ghost entries = { scripted_entries };
 }
 
 impl Behavior for Scripted {
@@ -69,14 +71,21 @@ impl Behavior for Scripted {
         _table: &TypeTable,
         input: Input,
     ) -> Result<Reaction, Memory> {
+        let cue = self.cue_now();
         match input {
             Input::Content(origin, message) => self.act(alloc, origin, message),
-            Input::Start => self.note(alloc, Note::Started),
-            Input::Stop => self.note(alloc, Note::Stopped),
-            Input::Response(tag, _) => self.note(alloc, Note::Responded(tag)),
-            Input::Failed(tag, sec) => self.note(alloc, Note::Failed(tag, sec)),
-            Input::Down(place, reason) => self.note(alloc, Note::Down(place, reason)),
-            Input::Tick => self.note(alloc, Note::Ticked),
+            Input::Stop => self.follow(alloc, Note::Stopped, cue.exits_alone()),
+            Input::Tick => self.follow(alloc, Note::Ticked, cue),
+            Input::Start => self.follow(alloc, Note::Started, cue.without_ticks()),
+            Input::Response(tag, _) => {
+                self.follow(alloc, Note::Responded(tag), cue.without_ticks())
+            }
+            Input::Failed(tag, sec) => {
+                self.follow(alloc, Note::Failed(tag, sec), cue.without_ticks())
+            }
+            Input::Down(place, reason) => {
+                self.follow(alloc, Note::Down(place, reason), cue.without_ticks())
+            }
         }
     }
 
@@ -86,9 +95,9 @@ impl Behavior for Scripted {
 
     ghost skips_inputs = { laws.skips_inputs };
 
-    ghost fits_its_table = { laws.fits_its_table finite.empty };
+    ghost fits_its_table = { laws.fits_its_table };
 
-    ghost fits_its_entries = { laws.fits_its_entries finite.empty };
+    ghost fits_its_entries = { laws.fits_its_entries };
 
     ghost answers_requests = { laws.answers_requests };
 
@@ -284,16 +293,106 @@ impl Scripted {
         }
     }
 
-    fn note(&mut self, alloc: Global, note: Note) -> Result<Reaction, Memory>
-        ensures next { OnOk result (self.new ≡ noted self.old note) }
-        ensures reaction { IfOk result (λ reaction. plain_reaction reaction ≡ no_reaction) }
+    fn cue_now(&self) -> Cue
+        ensures { result ≡ cue_now self.now }
     {
+        match self.cues.get(self.notes.len()) {
+            Some(cue) => *cue,
+            None => Cue::none(),
+        }
+    }
+
+    /// Follows the cue, and remembers the input.
+    fn follow(&mut self, alloc: Global, note: Note, cue: Cue) -> Result<Reaction, Memory>
+        ensures next { OnOk result (self.new ≡ noted self.old note) }
+        ensures reaction { IfOk result (λ reaction. plain_reaction reaction ≡ reaction_by self.old cue) }
+    {
+        let mut outputs = Seq::new(alloc);
+        self.send_number(alloc, &mut outputs, cue.sending, cue.number)?;
+        self.signal(alloc, &mut outputs, cue.signal)?;
         self.notes.push(note)?;
         Ok(Reaction {
-            outputs: Seq::new(alloc),
+            outputs,
             answer: Answer::Nothing,
-            quit: None,
+            quit: cue.quit,
         })
+    }
+
+    fn send_number(
+        &self,
+        alloc: Global,
+        outputs: &mut Seq<Output>,
+        sending: Option<Sending>,
+        number: u64,
+    ) -> Result<(), Memory>
+        ensures { OnOk result (map plain_output outputs.new ≡ map plain_output outputs.old ++ outputs_by self.now (first_peer self.now.place self.now.peers) (own_origin self.now.place) (number_content number) sending) }
+    {
+        let to = self.first_peer();
+        let origin = own_origin(self.place);
+        let mut message = number_message(alloc, number)?;
+        self.send(alloc, outputs, to, &origin, sending, &mut message)
+    }
+
+    /// Sends it to each peer, where these are at most 512.
+    fn signal(
+        &self,
+        alloc: Global,
+        outputs: &mut Seq<Output>,
+        signal: Option<Signal>,
+    ) -> Result<(), Memory>
+        ensures { OnOk result (map plain_output outputs.new ≡ map plain_output outputs.old ++ signals_by self.now.peers signal) }
+    {
+        match signal {
+            None => Ok(()),
+            Some(signal) => {
+                let places = few_places(alloc, &self.peers)?;
+                signal_all(outputs, places.as_slice(), signal)
+            }
+        }
+    }
+}
+
+fn signal_all(outputs: &mut Seq<Output>, places: &[u32], signal: Signal) -> Result<(), Memory>
+    ensures { OnOk result (map plain_output outputs.new ≡ map plain_output outputs.old ++ map (signal_output signal) places.now) }
+{
+    for to in places {
+        let output = signal_output(*to, signal);
+        outputs.push(output)?;
+    }
+    Ok(())
+}
+
+fn signal_output(to: u32, signal: Signal) -> Output
+    ensures { plain_output result ≡ signal_output signal to }
+{
+    match signal {
+        Signal::Exit(reason) => Output::Exit(to, reason),
+        Signal::Tick => Output::Tick(to),
+    }
+}
+
+/// Where the content comes from that a behaviour sends of its own.
+fn own_origin(place: u32) -> Origin
+    ensures { result ≡ own_origin place }
+{
+    Origin {
+        sender: place,
+        mid: Mid {
+            requester: place,
+            number: 0,
+            response: false,
+        },
+        priority: Priority::Normal,
+    }
+}
+
+fn number_message(alloc: Global, number: u64) -> Result<Message, Memory>
+    ensures { IfOk result (λ message. message.content ≡ number_content number) }
+{
+    match Message::of(alloc, &Number(number)) {
+        Ok(message) => Ok(message),
+        Err(MessageFault::Memory) => Err(Memory),
+        Err(MessageFault::Large) => unreachable!(),
     }
 }
 

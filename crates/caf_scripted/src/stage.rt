@@ -1,13 +1,12 @@
 //! One scripted actor on a stage: letters go in, and lines that say what it sent come out.
-ghost use Rattle.std.specs.Prelude.{◌≡◌, ◌≢◌, ◌<◌, [], IfOk, OnOk, map};
+ghost use Rattle.std.specs.Prelude.{◌≡◌, ◌≢◌, ◌<◌, [], IfOk, OnOk, map, min};
 ghost use Rattle.std.specs.List.{AllByRecursion};
 ghost use Rattle.caf_types.specs.Table.{built_in, shape_at};
 ghost use Rattle.caf_message.specs.Envelope.{plain_envelope, plain_body, EnvelopeFits, BodyFits};
-ghost use Rattle.caf_message.specs.Fits.{FitsTable};
 ghost use Rattle.caf_message.specs.declared.envelope.Taken.{Taken};
 
 use crate::rows::{Nothing, Number};
-use crate::{Act, Note, Reply, Scripted, Sending};
+use crate::{Act, Cue, Note, Scripted};
 use caf_actor::{Actor, Post};
 use caf_message::{Batch, Body, Envelope, Message, MessageFault};
 use caf_signature::{Interface, Signature};
@@ -19,67 +18,112 @@ use std::marker::Model;
 
 /// What stands in a letter or a line.
 #[derive(Clone, Copy, Debug, PartialEq, Eq, Drop)]
-pub(crate) enum What {
+pub enum What {
     /// Content of type `unsigned`.
     Number(u64),
     /// Content of type `unit`.
     Nothing,
+    /// An error that answers a request.
     Failure(Sec),
+    /// A notice.
     Told(Notice),
-    /// Content of other types.
+    /// Content of other types. In a letter it stands for content of type `unit`.
     Other,
 }
 
 /// What the actor takes.
 #[derive(Clone, Copy, Debug, PartialEq, Eq, Drop)]
-pub(crate) struct Letter {
-    pub(crate) sender: u32,
-    pub(crate) mid: Mid,
-    pub(crate) priority: Priority,
-    pub(crate) stamp: u32,
-    pub(crate) what: What,
+pub struct Letter {
+    /// The place that sent it.
+    pub sender: u32,
+    /// Its sender's number for it.
+    pub seq: u64,
+    /// Whose request it is or answers, if it is or does.
+    pub mid: Mid,
+    /// Which of the two lists it goes to.
+    pub priority: Priority,
+    /// Its sender's stamp.
+    pub stamp: u32,
+    /// What stands in it.
+    pub what: What,
     /// The number of the batch that it comes in, below 8.
-    pub(crate) batch: u8,
+    pub batch: u8,
 }
 
 /// What the actor sent.
 #[derive(Clone, Copy, Debug, PartialEq, Eq, Drop)]
-pub(crate) struct Line {
-    pub(crate) to: u32,
-    pub(crate) seq: u64,
-    pub(crate) mid: Mid,
-    pub(crate) priority: Priority,
-    pub(crate) stamp: u64,
-    pub(crate) what: What,
+pub struct Line {
+    /// The place that it goes to.
+    pub to: u32,
+    /// The actor's number for it at that place.
+    pub seq: u64,
+    /// Whose request it is or answers, if it is or does.
+    pub mid: Mid,
+    /// Which of the two lists it goes to.
+    pub priority: Priority,
+    /// The stamp of the batch at which it was sent.
+    pub stamp: u64,
+    /// What stands in it.
+    pub what: What,
 }
 
-/// What the actor of place 1 is.
+impl Line {
+    /// The line of the actor at the place `sender`, as a letter of that batch. The stamp stops at
+    /// 2^32 - 1.
+    pub fn letter(&self, sender: u32, batch: u8) -> Letter
+        ensures { result ≡ record { sender = sender; seq = self.now.seq; mid = self.now.mid; priority = self.now.priority; stamp = min self.now.stamp 4294967295; what = self.now.what; batch = batch } }
+    {
+        Letter {
+            sender,
+            seq: self.seq,
+            mid: self.mid,
+            priority: self.priority,
+            stamp: self.stamp.min(4_294_967_295) as u32,
+            what: self.what,
+            batch,
+        }
+    }
+}
+
+/// What the actor is.
 #[derive(Clone, Copy, Debug)]
-pub(crate) struct Part<'a> {
-    pub(crate) peers: &'a [u32],
+pub struct Part<'a> {
+    /// Its place.
+    pub place: u32,
+    /// Whom it sends to.
+    pub peers: &'a [u32],
     /// The places of its children.
-    pub(crate) reserve: &'a [u32],
+    pub reserve: &'a [u32],
     /// Whether it is a child that nobody has started.
-    pub(crate) is_vacant: bool,
-    pub(crate) acts: &'a [Act],
-    pub(crate) is_asleep: bool,
+    pub is_vacant: bool,
+    /// What it does, content by content.
+    pub acts: &'a [Act],
+    /// What it does at the other inputs, input by input.
+    pub cues: &'a [Cue],
+    /// Whether it keeps the first input of its interface for later.
+    pub is_asleep: bool,
     /// Whether its interface has [unit] to [unit] beside [unsigned] to [unsigned].
-    pub(crate) takes_unit: bool,
+    pub takes_unit: bool,
 }
 
 /// What came of a play.
 #[derive(Debug, Drop)]
-pub(crate) struct Played {
-    pub(crate) lines: Seq<Line>,
-    pub(crate) notes: Seq<Note>,
-    pub(crate) handled: u64,
-    pub(crate) batches: u64,
-    pub(crate) quit: Option<Reason>,
+pub struct Played {
+    /// What the actor sent, in order.
+    pub lines: Seq<Line>,
+    /// What it was given besides content.
+    pub notes: Seq<Note>,
+    /// How many envelopes it handled.
+    pub handled: u64,
+    /// How many batches it took.
+    pub batches: u64,
+    /// Why it quit, if it did.
+    pub quit: Option<Reason>,
 }
 
-/// An actor and the table of the built-in types.
+/// A scripted actor and the table of the built-in types.
 #[derive(Drop)]
-struct Stage {
+pub struct Stage {
     alloc: Global,
     table: TypeTable,
     actor: Actor<Scripted>,
@@ -99,8 +143,8 @@ impl Model for Stage {
     ghost invariant = { λ stage. (seen stage.table ≡ built_in) × (stage.actor.is_broken ≡ false → CachesFit (shape_at built_in) stage.actor.snapshot.caches) };
 }
 
-/// The actor takes the letters, batch by batch.
-pub(crate) fn play(alloc: Global, part: Part, letters: &[Letter]) -> Result<Played, MessageFault> {
+/// A new actor takes the letters, batch by batch: first those of batch 0, last those of batch 7.
+pub fn play(alloc: Global, part: Part, letters: &[Letter]) -> Result<Played, MessageFault> {
     let mut stage = Stage::new(alloc, part)?;
     let mut lines = Seq::new(alloc);
     for batch in 0..8 {
@@ -109,88 +153,25 @@ pub(crate) fn play(alloc: Global, part: Part, letters: &[Letter]) -> Result<Play
     Ok(stage.played(lines)?)
 }
 
-/// What an actor sends that tells a number to three places, where the message that it is told has
-/// been retained so many times, each time in place of it.
-pub(crate) fn fan_out(alloc: Global, retains: u8) -> Result<Seq<Post>, MessageFault> {
-    let fan = Act {
-        sending: Some(Sending::Fan),
-        ..Act::only(Reply::Ignore)
-    };
-    let part = Part {
-        peers: &[3, 4, 5],
-        reserve: &[],
-        is_vacant: false,
-        acts: &[fan],
-        is_asleep: false,
-        takes_unit: true,
-    };
-    let mut stage = Stage::new(alloc, part)?;
-    let message = retained_number(alloc, retains)?;
-    let batch = batch_with(alloc, message)?;
-    stage.take_batch(batch)
-}
-
-/// A message with a number whose room shrank so many times.
-fn retained_number(alloc: Global, retains: u8) -> Result<Message, MessageFault>
-    ensures { IfOk result (λ message. FitsTable built_in message.content) }
-{
-    let mut message = Message::of(alloc, &Number(7))?;
-    for _ in 0..retains {
-        message = narrower(message)?;
-    }
-    Ok(message)
-}
-
-/// A further reference to the message's tuple, in place of it.
-pub(crate) fn narrower(message: Message) -> Result<Message, Memory>
-    ensures { IfOk result (λ narrow. narrow.content ≡ message.content) }
-{
-    let mut message = message;
-    if message.room() > 0 {
-        return message.retain();
-    }
-    Ok(message)
-}
-
-/// The message as the one content of a batch.
-fn batch_with(alloc: Global, message: Message) -> Result<Batch, Memory>
-    requires { FitsTable built_in message.content }
-    ensures fits { IfOk result (λ batch. AllByRecursion (EnvelopeFits (shape_at built_in)) (map plain_envelope batch)) }
-    ensures stamps { IfOk result (λ batch. AllByRecursion (λ (e : Taken). e.stamp < 1099511627776) (map plain_envelope batch)) }
-{
-    let mut batch = Batch::new(alloc);
-    batch.push(Envelope {
-        sender: 2,
-        seq: 0,
-        mid: Mid {
-            requester: 2,
-            number: 0,
-            response: false,
-        },
-        priority: Priority::Normal,
-        stamp: 1,
-        body: Body::Content(message),
-    })?;
-    Ok(batch)
-}
-
 impl Stage {
-    fn new(alloc: Global, part: Part) -> Result<Stage, Memory> {
+    /// The actor at its beginning.
+    pub fn new(alloc: Global, part: Part) -> Result<Stage, Memory> {
         let table = TypeTable::new(alloc)?;
         let scripted = Scripted {
-            place: 1,
+            place: part.place,
             peers: Places::of_vec(Vec::from_slice(alloc, part.peers)?),
             reserve: Places::of_vec(Vec::from_slice(alloc, part.reserve)?),
             interface: interface(alloc, part.takes_unit)?,
             acts: Seq::of_vec(Vec::from_slice(alloc, part.acts)?),
+            cues: Seq::of_vec(Vec::from_slice(alloc, part.cues)?),
             done: 0,
             is_asleep: part.is_asleep,
             notes: Seq::new(alloc),
         };
         let actor = if part.is_vacant {
-            Actor::vacant(alloc, 1, scripted, 0)?
+            Actor::vacant(alloc, part.place, scripted, 0)?
         } else {
-            Actor::new(alloc, 1, scripted, 0)?
+            Actor::new(alloc, part.place, scripted, 0)?
         };
         Ok(Stage {
             alloc,
@@ -199,8 +180,8 @@ impl Stage {
         })
     }
 
-    /// The actor takes the letters of that batch.
-    fn take(
+    /// The actor takes the letters of that batch, and its lines come behind the others.
+    pub fn take(
         &mut self,
         number: u8,
         letters: &[Letter],
@@ -212,8 +193,9 @@ impl Stage {
         Ok(())
     }
 
-    /// The actor takes a batch, where it isn't empty.
-    fn take_batch(&mut self, batch: Batch) -> Result<Seq<Post>, MessageFault>
+    /// The actor takes a batch, where it isn't empty and the actor's stamp is below 2^40. What it
+    /// sends comes back in order.
+    pub fn take_batch(&mut self, batch: Batch) -> Result<Seq<Post>, MessageFault>
         requires fits { AllByRecursion (EnvelopeFits (shape_at built_in)) (map plain_envelope batch) }
         requires stamps { AllByRecursion (λ (e : Taken). e.stamp < 1099511627776) (map plain_envelope batch) }
     {
@@ -224,7 +206,8 @@ impl Stage {
         Ok(posts)
     }
 
-    fn played(self, lines: Seq<Line>) -> Result<Played, Memory> {
+    /// What came of it, with these lines.
+    pub fn played(self, lines: Seq<Line>) -> Result<Played, Memory> {
         let behavior = self.actor.behavior();
         let notes = Vec::from_slice(self.alloc, behavior.notes.as_slice())?;
         Ok(Played {
@@ -264,14 +247,14 @@ fn types(alloc: Global, id: u16) -> Result<TypeIds, Memory> {
     Ok(types)
 }
 
-/// The letters of that batch, each with its position as its number.
-fn batch_of(alloc: Global, number: u8, letters: &[Letter]) -> Result<Batch, MessageFault>
+/// The letters of that batch, in order.
+pub fn batch_of(alloc: Global, number: u8, letters: &[Letter]) -> Result<Batch, MessageFault>
     ensures fits { IfOk result (λ batch. AllByRecursion (EnvelopeFits (shape_at built_in)) (map plain_envelope batch)) }
     ensures stamps { IfOk result (λ batch. AllByRecursion (λ (e : Taken). e.stamp < 1099511627776) (map plain_envelope batch)) }
 {
     let mut batch = Batch::new(alloc);
     for i in 0..letters.len() {
-        add_letter(alloc, &mut batch, number, i as u64, &letters[i])?;
+        add_letter(alloc, &mut batch, number, &letters[i])?;
     }
     Ok(batch)
 }
@@ -281,7 +264,6 @@ fn add_letter(
     alloc: Global,
     batch: &mut Batch,
     number: u8,
-    seq: u64,
     letter: &Letter,
 ) -> Result<(), MessageFault>
     requires fits { AllByRecursion (EnvelopeFits (shape_at built_in)) (map plain_envelope batch.old) }
@@ -292,19 +274,19 @@ fn add_letter(
     if letter.batch != number {
         return Ok(());
     }
-    let envelope = envelope_of(alloc, seq, letter)?;
+    let envelope = envelope_of(alloc, letter)?;
     batch.push(envelope)?;
     Ok(())
 }
 
-fn envelope_of(alloc: Global, seq: u64, letter: &Letter) -> Result<Envelope, MessageFault>
+fn envelope_of(alloc: Global, letter: &Letter) -> Result<Envelope, MessageFault>
     ensures fits { IfOk result (λ envelope. EnvelopeFits (shape_at built_in) (plain_envelope envelope)) }
     ensures stamp { IfOk result (λ envelope. envelope.stamp < 1099511627776) }
 {
     let body = body_of(alloc, letter.what)?;
     Ok(Envelope {
         sender: letter.sender,
-        seq,
+        seq: letter.seq,
         mid: letter.mid,
         priority: letter.priority,
         stamp: letter.stamp as u64,
@@ -323,7 +305,8 @@ fn body_of(alloc: Global, what: What) -> Result<Body, MessageFault>
     }
 }
 
-fn add_lines(alloc: Global, lines: &mut Seq<Line>, posts: Seq<Post>) -> Result<(), Memory> {
+/// Adds the posts to the lines.
+pub fn add_lines(alloc: Global, lines: &mut Seq<Line>, posts: Seq<Post>) -> Result<(), Memory> {
     for post in posts.into_vec() {
         lines.push(line_of(alloc, post)?)?;
     }

@@ -1,6 +1,7 @@
-use crate::rows::Number;
-use crate::stage::{Letter, Line, Part, What, fan_out, narrower, play};
-use crate::{Act, Note, Reply, Sending};
+use crate::fans::{fan_out, narrower};
+use crate::{
+    Act, Cue, Letter, Line, Note, Number, Part, Played, Reply, Sending, Signal, What, play,
+};
 use caf_actor::Post;
 use caf_actor::laws::address;
 use caf_message::{Body, Message, MessageFault, Replaced};
@@ -22,6 +23,7 @@ fn mid(requester: u32, number: u64, response: bool) -> Mid {
 fn letter(batch: u8, sender: u32, mid: Mid, priority: Priority, what: What) -> Letter {
     Letter {
         sender,
+        seq: 0,
         mid,
         priority,
         stamp: 1,
@@ -80,10 +82,12 @@ fn failure(to: u32, seq: u64, number: u64, priority: Priority, stamp: u64, sec: 
 
 fn echo(is_asleep: bool, acts: &[Act]) -> Part {
     Part {
+        place: 1,
         peers: &[],
         reserve: &[],
         is_vacant: false,
         acts,
+        cues: &[],
         is_asleep,
         takes_unit: true,
     }
@@ -143,10 +147,12 @@ fn a_skipped_request_is_answered_after_the_wake(rt: HostRuntime) -> Result<(), F
 #[test]
 fn a_request_outside_the_interface_is_refused(rt: HostRuntime) -> Result<(), Fail> {
     let calc = Part {
+        place: 1,
         peers: &[],
         reserve: &[],
         is_vacant: false,
         acts: &[],
+        cues: &[],
         is_asleep: false,
         takes_unit: false,
     };
@@ -174,10 +180,12 @@ fn ask(tag: u32, id: u16) -> Act {
 fn a_response_of_other_types_is_an_error(rt: HostRuntime) -> Result<(), Fail> {
     let acts = [ask(70, 3), ask(71, 2)];
     let asker = Part {
+        place: 1,
         peers: &[5],
         reserve: &[],
         is_vacant: false,
         acts: acts.as_slice(),
+        cues: &[],
         is_asleep: false,
         takes_unit: true,
     };
@@ -213,10 +221,12 @@ fn the_last_awaited_response_comes_first(rt: HostRuntime) -> Result<(), Fail> {
         ..Act::only(Reply::Ignore)
     }];
     let awaiting = Part {
+        place: 1,
         peers: &[5],
         reserve: &[],
         is_vacant: false,
         acts: acts.as_slice(),
+        cues: &[],
         is_asleep: false,
         takes_unit: true,
     };
@@ -258,10 +268,12 @@ fn a_quit_answers_what_it_leaves(rt: HostRuntime) -> Result<(), Fail> {
     };
     let acts = [link, Act::only(Reply::Hold), leave()];
     let quitter = Part {
+        place: 1,
         peers: &[3],
         reserve: &[],
         is_vacant: false,
         acts: acts.as_slice(),
+        cues: &[],
         is_asleep: false,
         takes_unit: true,
     };
@@ -322,10 +334,12 @@ fn a_held_request_is_delivered_and_another_delegated(rt: HostRuntime) -> Result<
     };
     let acts = [Act::only(Reply::Hold), settle];
     let holder = Part {
+        place: 1,
         peers: &[8],
         reserve: &[],
         is_vacant: false,
         acts: acts.as_slice(),
+        cues: &[],
         is_asleep: false,
         takes_unit: true,
     };
@@ -364,10 +378,12 @@ fn ticks_end_requests_and_send_what_was_delayed(rt: HostRuntime) -> Result<(), F
         },
     ];
     let waiting = Part {
+        place: 1,
         peers: &[5],
         reserve: &[],
         is_vacant: false,
         acts: acts.as_slice(),
+        cues: &[],
         is_asleep: false,
         takes_unit: true,
     };
@@ -405,10 +421,12 @@ fn a_child_keeps_content_until_it_begins(rt: HostRuntime) -> Result<(), Fail> {
     };
     let acts = [spawn];
     let child = Part {
+        place: 1,
         peers: &[],
         reserve: &[6],
         is_vacant: true,
         acts: acts.as_slice(),
+        cues: &[],
         is_asleep: false,
         takes_unit: true,
     };
@@ -424,6 +442,84 @@ fn a_child_keeps_content_until_it_begins(rt: HostRuntime) -> Result<(), Fail> {
     let played = play(rt.alloc(), child, letters.as_slice())?;
     assert_eq!(rt; played.lines.as_slice(), expected.as_slice());
     assert_eq!(rt; played.handled, 3);
+    Ok(())
+}
+
+// ---- place 0
+
+/// Place 0 asks its first peer at Start, hands a tick on to each peer, and sends each peer an exit
+/// notice at Stop.
+fn place_0(cues: &[Cue]) -> Part {
+    Part {
+        place: 0,
+        peers: &[1, 2],
+        reserve: &[],
+        is_vacant: false,
+        acts: &[],
+        cues,
+        is_asleep: false,
+        takes_unit: false,
+    }
+}
+
+/// The first line of the play, as a letter of the actor at the place `sender`.
+fn brought(played: &Played, sender: u32, batch: u8) -> Result<Letter, MessageFault> {
+    match played.lines.get(0) {
+        Some(line) => Ok(line.letter(sender, batch)),
+        None => Err(MessageFault::Large),
+    }
+}
+
+/// The request of place 0 is brought to place 1, and what this one answers is brought back.
+#[test]
+fn place_0_asks_hands_ticks_on_and_sends_exits(rt: HostRuntime) -> Result<(), Fail> {
+    let alloc = rt.alloc();
+    let cues = [
+        Cue {
+            sending: Some(Sending::Ask(Mode::Multiplexed, 5, TypeId(2))),
+            number: 7,
+            ..Cue::none()
+        },
+        Cue::none(),
+        Cue {
+            signal: Some(Signal::Tick),
+            ..Cue::none()
+        },
+        Cue {
+            signal: Some(Signal::Exit(Reason::Kill)),
+            ..Cue::none()
+        },
+    ];
+    let start = notice(0, 256, Notice::Start);
+    let begun = play(alloc, place_0(cues.as_slice()), &[start])?;
+    let asked = play(alloc, echo(false, &[]), &[brought(&begun, 0, 0)?])?;
+    let letters = [
+        start,
+        brought(&asked, 1, 1)?,
+        notice(2, 256, Notice::Tick(256)),
+        notice(3, 256, Notice::Stop),
+    ];
+    let played = play(alloc, place_0(cues.as_slice()), letters.as_slice())?;
+    let answered = [line(0, 0, mid(0, 1, true), Priority::Normal, 3, What::Number(7))];
+    assert_eq!(rt; asked.lines.as_slice(), answered.as_slice());
+    let own = mid(0, 0, false);
+    let tick = What::Told(Notice::Tick(0));
+    let exit = What::Told(Notice::Exit(0, Reason::Kill));
+    let expected = [
+        line(1, 0, mid(0, 1, false), Priority::Normal, 2, What::Number(7)),
+        line(1, 1, own, Priority::Urgent, 5, tick),
+        line(2, 0, own, Priority::Urgent, 5, tick),
+        line(1, 2, own, Priority::Urgent, 6, exit),
+        line(2, 1, own, Priority::Urgent, 6, exit),
+    ];
+    let notes = [
+        Note::Started,
+        Note::Responded(5),
+        Note::Ticked,
+        Note::Stopped,
+    ];
+    assert_eq!(rt; played.lines.as_slice(), expected.as_slice());
+    assert_eq!(rt; played.notes.as_slice(), notes.as_slice());
     Ok(())
 }
 

@@ -1,10 +1,10 @@
 use Rattle.caf_types.specs.Table.{built_in, shape_at}
 use Rattle.caf_types.specs.TypeTable.{seen}
-use Rattle.caf_scripted.proofs.BatchLemmas.{has_none}
+use Rattle.caf_scripted.proofs.BatchLemmas.{has_numbers}
 use Rattle.caf_scripted.proofs.stage.Stage.take_batch.Goals as goal
 
 pub batch-requires-clause-entries : goal.batch-requires-clause-entries
-batch-requires-clause-entries c = has_none (seen c.self.inside.table)
+batch-requires-clause-entries c = has_numbers (seen c.self.inside.table) c.self.invariant.0
 
 pub invariant_of-self-2 : goal.invariant_of-self-2
 invariant_of-self-2 c = (
