@@ -1,0 +1,5 @@
+pub mod Limits
+pub mod Rule
+pub mod Seat
+pub mod Steps
+pub mod Views
