@@ -11,7 +11,7 @@ use caf_actor::{Actor, Post};
 use caf_message::{Batch, Body, Envelope, Message, MessageFault};
 use caf_signature::{Interface, Signature};
 use caf_types::{
-    Memory, Mid, Notice, Places, Priority, Reason, Sec, Seq, TypeId, TypeIds, TypeTable,
+    Memory, Mid, Notice, PLACES, Places, Priority, Reason, Sec, Seq, TypeId, TypeIds, TypeTable,
 };
 use std::alloc::Global;
 use std::marker::Model;
@@ -154,11 +154,16 @@ pub fn play(alloc: Global, part: Part, letters: &[Letter]) -> Result<Played, Mes
 }
 
 impl Stage {
-    /// The actor at its beginning.
+    /// The actor at its beginning. A place beyond the last one is the last one.
     pub fn new(alloc: Global, part: Part) -> Result<Stage, Memory> {
         let table = TypeTable::new(alloc)?;
+        let place = if part.place < PLACES {
+            part.place
+        } else {
+            PLACES - 1
+        };
         let scripted = Scripted {
-            place: part.place,
+            place,
             peers: Places::of_vec(Vec::from_slice(alloc, part.peers)?),
             reserve: Places::of_vec(Vec::from_slice(alloc, part.reserve)?),
             interface: interface(alloc, part.takes_unit)?,
@@ -169,9 +174,9 @@ impl Stage {
             notes: Seq::new(alloc),
         };
         let actor = if part.is_vacant {
-            Actor::vacant(alloc, part.place, scripted, 0)?
+            Actor::vacant(alloc, place, scripted, 0)?
         } else {
-            Actor::new(alloc, part.place, scripted, 0)?
+            Actor::new(alloc, place, scripted, 0)?
         };
         Ok(Stage {
             alloc,
