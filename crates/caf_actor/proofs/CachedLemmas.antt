@@ -12,7 +12,7 @@ use Rattle.caf_actor.specs.Actor.{CachesFit}
 use Rattle.caf_actor.specs.Snapshot.{Handled, cached}
 use Rattle.caf_actor.specs.Eligibility.{is_eligible, next_envelope}
 use Rattle.caf_actor.specs.Handling.{handle_one}
-use Rattle.caf_actor.proofs.KeptLemmas.{Keeps, KeepsToo, on_one}
+use Rattle.caf_actor.proofs.SimpleLemmas.{Keeps, KeepsToo, on_one}
 
 -- ---- the next envelope
 
@@ -38,10 +38,9 @@ module _ {S : Type 0} (rules : Rules S) where
           })
 
   -- no more is cached than before
-  cached_keeps : (n : ℕ) → Keeps rules (λ u. cached u.snapshot ≤ n)
+  cached_keeps : (n : ℕ) → Keeps {S = S} (λ u. cached u.snapshot ≤ n)
   cached_keeps n = record {
     on_post = λ t to mid priority body h. h;
-    on_behavior = λ t i may h. h;
     on_holds = λ t holds h. h;
     on_issue = λ t mode tag expected h. h;
     on_issue_within = λ t ticks mode tag expected h. h;
@@ -51,8 +50,9 @@ module _ {S : Type 0} (rules : Rules S) where
     on_emptied = λ t why h. omega arith;
   }
 
-  cached_keeps_too : (n : ℕ) → KeepsToo rules (λ u. cached u.snapshot ≤ n)
+  cached_keeps_too : (n : ℕ) → KeepsToo {S = S} rules (λ u. cached u.snapshot ≤ n)
   cached_keeps_too n = record {
+    on_behavior = λ t i may h. h;
     on_resolved = λ t number found e h. h;
     on_expired = λ t found e h. h;
     on_begun = λ t h. h;
@@ -62,10 +62,9 @@ module _ {S : Type 0} (rules : Rules S) where
   pub cached_one : (t : Handled S) (e : Taken) → cached (handle_one rules t e).snapshot ≤ cached t.snapshot
   cached_one t e = on_one rules (λ u. cached u.snapshot ≤ cached t.snapshot) (cached_keeps (cached t.snapshot)) (cached_keeps_too (cached t.snapshot)) t e (omega arith)
 
-  all_keeps : (P : Taken → Type 0) → Keeps rules (λ u. AllCached P u.snapshot.caches)
+  all_keeps : (P : Taken → Type 0) → Keeps {S = S} (λ u. AllCached P u.snapshot.caches)
   all_keeps P = record {
     on_post = λ t to mid priority body h. h;
-    on_behavior = λ t i may h. h;
     on_holds = λ t holds h. h;
     on_issue = λ t mode tag expected h. h;
     on_issue_within = λ t ticks mode tag expected h. h;
@@ -75,8 +74,9 @@ module _ {S : Type 0} (rules : Rules S) where
     on_emptied = λ t why h. (tt, tt);
   }
 
-  all_keeps_too : (P : Taken → Type 0) → KeepsToo rules (λ u. AllCached P u.snapshot.caches)
+  all_keeps_too : (P : Taken → Type 0) → KeepsToo {S = S} rules (λ u. AllCached P u.snapshot.caches)
   all_keeps_too P = record {
+    on_behavior = λ t i may h. h;
     on_resolved = λ t number found e h. h;
     on_expired = λ t found e h. h;
     on_begun = λ t h. h;

@@ -45,11 +45,11 @@ module _ {S : Type 0} (rules : Rules S) (b : S) (why : Reason) where
   stays_shell t reason origin («plain».Failure sec) h = h
   stays_shell t reason origin («plain».System n) h = stays_notice t reason n h
 
-  stays_where : (t : Handled S) (quit : Option Reason) (origin : Origin) (body : Plain) → quit ≡ Some why → Stays t → Stays (handle_where rules t quit origin body)
+  pub stays_where : (t : Handled S) (quit : Option Reason) (origin : Origin) (body : Plain) → quit ≡ Some why → Stays t → Stays (handle_where rules t quit origin body)
   stays_where t None origin body q h = cc
   stays_where t (Some reason) origin body q h = stays_shell t reason origin body h
 
-  stays_one : (t : Handled S) (e : Taken) → Stays t → Stays (handle_one rules t e)
+  pub stays_one : (t : Handled S) (e : Taken) → Stays t → Stays (handle_one rules t e)
   stays_one t e h = stays_where t t.snapshot.quit (origin_of e) e.body h.1 h
 
   next_stays : (t : Handled S) (p : Taken × Snapshot S) → next_envelope rules t.snapshot ≡ Some p → Stays t → Stays (with_snapshot t p.1)
@@ -64,8 +64,8 @@ module _ {S : Type 0} (rules : Rules S) (b : S) (why : Reason) where
   stays_drain : (n : ℕ) (t : Handled S) → Stays t → Stays (drain_for rules n t)
   stays_drain = drain_keeps rules Stays (λ t p q h. stays_one (with_snapshot t p.1) p.0 (next_stays t p q h))
 
-  resolves_none : (s : Snapshot S) (e : Taken) → s.quit ≡ Some why → resolves rules s e ≡ []
-  resolves_none s e q = rw q refl
+  resolves_none : (t : Handled S) (e : Taken) → t.snapshot.quit ≡ Some why → resolves rules t e ≡ []
+  resolves_none t e q = rw q refl
 
   drains_none : (n : ℕ) (t : Handled S) → Stays t → drain_resolves rules n t ≡ []
   drains_none zero t h = refl
@@ -75,7 +75,7 @@ module _ {S : Type 0} (rules : Rules S) (b : S) (why : Reason) where
       go later None q = rw q refl
       go later (Some p) q =
           let here = next_stays t p q h in
-          let none : resolves rules p.1 p.0 ≡ [] = resolves_none p.1 p.0 here.1 in
+          let none : resolves rules (with_snapshot t p.1) p.0 ≡ [] = resolves_none (with_snapshot t p.1) p.0 here.1 in
           let rest : drain_resolves rules n (handle_one rules (with_snapshot t p.1) p.0) ≡ [] = later (handle_one rules (with_snapshot t p.1) p.0) (stays_one (with_snapshot t p.1) p.0 here) in
           rw q ((λ i. none i ++ rest i))
 

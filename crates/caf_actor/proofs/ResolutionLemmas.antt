@@ -59,33 +59,33 @@ module _ {S : Type 0} (rules : Rules S) where
   ended_expire zero t = tt
   ended_expire (suc n) t = ended_expiry (expire_resolves rules n) (ended_expire n) t (next_due t.snapshot)
 
-  ended_notice : (s : Snapshot S) (n : Notice) → AllByRecursion Ends (notice_resolves rules s n)
-  ended_notice s notice.Start = tt
-  ended_notice s notice.Stop = tt
-  ended_notice s (notice.Exit from why) = tt
-  ended_notice s (notice.Link from) = tt
-  ended_notice s (notice.Unlink from) = tt
-  ended_notice s (notice.Watch from) = tt
-  ended_notice s (notice.Unwatch from) = tt
-  ended_notice s (notice.Down from why) = tt
-  ended_notice s (notice.Begin from) = tt
-  ended_notice s (notice.Tick from) = let t : Handled S = advance (so_far s []) in ended_expire (due_count t.snapshot) t
+  ended_notice : (t : Handled S) (n : Notice) → AllByRecursion Ends (notice_resolves rules t n)
+  ended_notice t notice.Start = tt
+  ended_notice t notice.Stop = tt
+  ended_notice t (notice.Exit from why) = tt
+  ended_notice t (notice.Link from) = tt
+  ended_notice t (notice.Unlink from) = tt
+  ended_notice t (notice.Watch from) = tt
+  ended_notice t (notice.Unwatch from) = tt
+  ended_notice t (notice.Down from why) = tt
+  ended_notice t (notice.Begin from) = tt
+  ended_notice t (notice.Tick from) = ended_expire (due_count (advance t).snapshot) (advance t)
 
-  ended_body : (s : Snapshot S) (e : Taken) (body : Plain) → AllByRecursion Ends (body_resolves rules s e body)
-  ended_body s e («plain».System what) = ended_notice s what
-  ended_body s e («plain».Failure sec) = ended_if (is_response e) _ (ended_of s.pending e.mid.number («plain».Failure sec))
-  ended_body s e («plain».Content words) = ended_if (is_response e) _ (ended_of s.pending e.mid.number («plain».Content words))
+  ended_body : (t : Handled S) (e : Taken) (body : Plain) → AllByRecursion Ends (body_resolves rules t e body)
+  ended_body t e («plain».System what) = ended_notice t what
+  ended_body t e («plain».Failure sec) = ended_if (is_response e) _ (ended_of t.snapshot.pending e.mid.number («plain».Failure sec))
+  ended_body t e («plain».Content words) = ended_if (is_response e) _ (ended_of t.snapshot.pending e.mid.number («plain».Content words))
 
-  ended_where_live : (b : Bool) (s : Snapshot S) (e : Taken) → AllByRecursion Ends (resolves_where b rules s e)
-  ended_where_live true s e = ended_body s e e.body
-  ended_where_live false s e = tt
+  ended_where_live : (b : Bool) (t : Handled S) (e : Taken) → AllByRecursion Ends (resolves_where b rules t e)
+  ended_where_live true t e = ended_body t e e.body
+  ended_where_live false t e = tt
 
-  ended_one : (s : Snapshot S) (e : Taken) → AllByRecursion Ends (resolves rules s e)
-  ended_one s e = ended_where_live (is_none s.quit) s e
+  ended_one : (t : Handled S) (e : Taken) → AllByRecursion Ends (resolves rules t e)
+  ended_one t e = ended_where_live (is_none t.snapshot.quit) t e
 
   ended_turn : (go : Handled S → List Resolution) → ((t : Handled S) → AllByRecursion Ends (go t)) → (t : Handled S) (r : Option (Taken × Snapshot S)) → AllByRecursion Ends (turn_resolves rules go t r)
   ended_turn go later t None = tt
-  ended_turn go later t (Some p) = all_append Ends (resolves rules p.1 p.0) (go (handle_one rules (with_snapshot t p.1) p.0)) (ended_one p.1 p.0) (later (handle_one rules (with_snapshot t p.1) p.0))
+  ended_turn go later t (Some p) = all_append Ends (resolves rules (with_snapshot t p.1) p.0) (go (handle_one rules (with_snapshot t p.1) p.0)) (ended_one (with_snapshot t p.1) p.0) (later (handle_one rules (with_snapshot t p.1) p.0))
 
   ended_drain : (n : ℕ) (t : Handled S) → AllByRecursion Ends (drain_resolves rules n t)
   ended_drain zero t = tt

@@ -15,7 +15,7 @@ use Rattle.caf_actor.specs.Eligibility.{is_eligible, with_caches, next_envelope}
 use Rattle.caf_actor.specs.Sending.{post, posting}
 use Rattle.caf_actor.specs.Handling.{handle_one}
 use Rattle.caf_actor.specs.Drain.{greatest_stamp, stamp_due, with_batch, drain_for, batch_of}
-use Rattle.caf_actor.proofs.KeptLemmas.{Keeps, KeepsToo, on_one}
+use Rattle.caf_actor.proofs.SimpleLemmas.{Keeps, KeepsToo, on_one}
 use Rattle.caf_actor.proofs.DrainLemmas.{drain_keeps}
 
 -- ---- what is posted
@@ -32,10 +32,9 @@ module _ {S : Type 0} (rules : Rules S) (place stamp : ℕ) where
   one_more t to mid priority body h =
       (h.0, (h.1.0, all_append (IsPostOf place stamp) t.posts (posting t.snapshot to mid priority body ∷ []) h.1.1 ((h.0, h.1.0), tt)))
 
-  stands_keeps : Keeps rules (StandsAt place stamp)
+  stands_keeps : Keeps {S = S} (StandsAt place stamp)
   stands_keeps = record {
     on_post = one_more;
-    on_behavior = λ t i may h. h;
     on_holds = λ t holds h. h;
     on_issue = λ t mode tag expected h. h;
     on_issue_within = λ t ticks mode tag expected h. h;
@@ -45,8 +44,9 @@ module _ {S : Type 0} (rules : Rules S) (place stamp : ℕ) where
     on_emptied = λ t why h. h;
   }
 
-  stands_keeps_too : KeepsToo rules (StandsAt place stamp)
+  stands_keeps_too : KeepsToo {S = S} rules (StandsAt place stamp)
   stands_keeps_too = record {
+    on_behavior = λ t i may h. h;
     on_resolved = λ t number found e h. h;
     on_expired = λ t found e h. h;
     on_begun = λ t h. h;

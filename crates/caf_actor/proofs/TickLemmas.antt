@@ -13,7 +13,7 @@ use Rattle.caf_actor.specs.Rules.{Rules}
 use Rattle.caf_actor.specs.Snapshot.{Handled, with_snapshot}
 use Rattle.caf_actor.specs.Sending.{issue, issue_within}
 use Rattle.caf_actor.specs.Ticking.{timeout_input, time_out, expiry, next_due, due_count, expire_for, expire_all, send_delayed, delivery, deliver_for, deliver_all}
-use Rattle.caf_actor.proofs.KeptLemmas.{Keeps, on_give}
+use Rattle.caf_actor.proofs.SimpleLemmas.{Keeps, on_reaction}
 use Rattle.caf_actor.proofs.DueLemmas.{is_due, fewer_due, same_due_within, same_due_issued}
 
 -- ---- delayed messages
@@ -59,10 +59,9 @@ module _ {S : Type 0} (rules : Rules S) where
   abbrev IsDueAtMost : ℕ → ℕ → Handled S → Type 0
   IsDueAtMost now n t = (t.snapshot.clock ≡ now) × (count_by (is_due now) t.snapshot.pending.due ≤ n)
 
-  due_keeps : (now n : ℕ) → Keeps rules (IsDueAtMost now n)
+  due_keeps : (now n : ℕ) → Keeps {S = S} (IsDueAtMost now n)
   due_keeps now n = record {
     on_post = λ t to mid priority body h. h;
-    on_behavior = λ t i may h. h;
     on_holds = λ t holds h. h;
     on_issue = λ t mode tag expected h. let same = same_due_issued t.snapshot.pending mode tag expected now in let most = h.1 in (h.0, omega arith);
     on_issue_within = λ t ticks mode tag expected h.
@@ -82,7 +81,7 @@ module _ {S : Type 0} (rules : Rules S) where
       let now = t.snapshot.clock in
       let less = fewer_due t.snapshot.pending now found q in
       let u : Handled S = with_snapshot t (record t.snapshot { pending = found.1 }) in
-      let after = on_give rules (IsDueAtMost now (count_by (is_due now) found.1.due)) (due_keeps now (count_by (is_due now) found.1.due)) u (timeout_input found.0) tt (refl, omega arith) in
+      let after = on_reaction (IsDueAtMost now (count_by (is_due now) found.1.due)) (due_keeps now (count_by (is_due now) found.1.due)) rules u (timeout_input found.0) (refl, omega arith) in
       let most = after.1 in
       let same : (time_out rules t found).snapshot.clock ≡ now = after.0 in
       rw same (omega arith)

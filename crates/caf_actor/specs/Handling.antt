@@ -1,5 +1,5 @@
 -- What an actor does with one envelope that has left its list.
-use Rattle.std.specs.Prelude.{ℕ, ◌==◌, bytes_eq, true, if◌then◌else◌, List, Option, Some, None}
+use Rattle.std.specs.Prelude.{◌≡◌, ℕ, ◌==◌, bytes_eq, true, if◌then◌else◌, List, Option, Some, None}
 use Rattle.caf_types.specs.declared.notice.Notice.{Notice}
 use Rattle.caf_types.specs.declared.notice.Notice.TheVariants as notice
 use Rattle.caf_types.specs.declared.reason.Reason.{Reason}
@@ -13,7 +13,8 @@ use Rattle.caf_message.specs.declared.envelope.Plain.TheVariants as «plain»
 use Rattle.caf_message.specs.Content.{ids_in}
 use Rattle.caf_response.specs.declared.pending.Waiting.{Waiting}
 use Rattle.caf_response.specs.Pending.{WaitingRequests, resolved}
-use Rattle.caf_observe.specs.Observers.{with_link, without_link, with_monitor, without_monitor}
+use Rattle.caf_observe.specs.Places.{has_place}
+use Rattle.caf_observe.specs.Observers.{ObserverSets, with_link, without_link, with_monitor, without_monitor}
 use Rattle.caf_actor.specs.declared.origin.Origin.{Origin}
 use Rattle.caf_actor.specs.PlainInput.{PlainInput, Start, Stop, Content, Response, Failed, Down}
 use Rattle.caf_actor.specs.Rules.{Rules, is_input}
@@ -65,12 +66,14 @@ handle_exit t from why =
 abbrev pub begin : {S : Type 0} → Handled S → Handled S
 begin t = with_snapshot t (record t.snapshot { has_begun = true })
 
--- its handling ends without a post and without a reaction
-abbrev pub TakesNoMemory : Notice → Type 0
-TakesNoMemory (notice.Unlink from) = Unit {0}
-TakesNoMemory (notice.Unwatch from) = Unit {0}
-TakesNoMemory (notice.Begin from) = Unit {0}
-TakesNoMemory _ = ⊥
+-- its handling ends without a post and without a reaction, and makes no set larger
+abbrev pub TakesNoMemory : ObserverSets → Notice → Type 0
+TakesNoMemory o (notice.Link from) = has_place o.links from ≡ true
+TakesNoMemory o (notice.Watch from) = has_place o.monitors from ≡ true
+TakesNoMemory o (notice.Unlink from) = Unit {0}
+TakesNoMemory o (notice.Unwatch from) = Unit {0}
+TakesNoMemory o (notice.Begin from) = Unit {0}
+TakesNoMemory o _ = ⊥
 
 abbrev pub handle_notice : {S : Type 0} → Rules S → Handled S → Notice → Handled S
 handle_notice rules t notice.Start = give rules t Start

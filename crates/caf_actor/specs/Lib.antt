@@ -7,6 +7,7 @@ pub mod Rules
 pub mod Numbers
 pub mod Clock
 pub mod Snapshot
+pub mod Leads
 pub mod Eligibility
 pub mod Sending
 pub mod Answering

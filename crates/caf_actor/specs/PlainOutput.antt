@@ -1,5 +1,5 @@
 -- What a behaviour sends, with contents as words.
-use Rattle.std.specs.Prelude.{ℕ, List}
+use Rattle.std.specs.Prelude.{ℕ, List, Option, Some, None}
 use Rattle.caf_types.specs.declared.shape.TypeId.{TypeId}
 use Rattle.caf_types.specs.declared.notice.Priority.{Priority}
 use Rattle.caf_types.specs.declared.sec.Sec.{Sec}
@@ -26,3 +26,13 @@ pub data PlainOutput : Type 0 where
   Delay : ℕ → ℕ → Priority → List ℕ → PlainOutput
   -- after how many ticks it is too late, and then as a request
   Within : ℕ → ℕ → Priority → Mode → ℕ → List TypeId → List ℕ → PlainOutput
+
+-- the content in it, if it has one
+abbrev pub content_sent : PlainOutput → Option (List ℕ)
+content_sent (Tell to priority words) = Some words
+content_sent (TellMany places priority words) = Some words
+content_sent (Request to priority mode tag expected words) = Some words
+content_sent (Deliver requester number words) = Some words
+content_sent (Delay ticks to priority words) = Some words
+content_sent (Within ticks to priority mode tag expected words) = Some words
+content_sent _ = None

@@ -9,7 +9,7 @@ use Rattle.caf_message.specs.declared.envelope.Plain.TheVariants as «plain»
 use Rattle.caf_message.specs.Content.{ids_in}
 use Rattle.caf_message.specs.Envelope.{is_response}
 use Rattle.caf_response.specs.declared.pending.Waiting.{Waiting}
-use Rattle.caf_response.specs.Pending.{WaitingRequests, resolved, waiting_count, AreNumbered}
+use Rattle.caf_response.specs.Pending.{WaitingRequests, resolved, waiting_count}
 use Rattle.caf_actor.specs.declared.snapshot.Snapshot.{Snapshot}
 use Rattle.caf_actor.specs.PlainInput.{PlainInput}
 use Rattle.caf_actor.specs.PlainInput as input
@@ -72,28 +72,28 @@ expire_resolves rules (suc n) t = expiry_resolves rules (expire_resolves rules n
 abbrev pub tick_resolves : {S : Type 0} → Rules S → Handled S → List Resolution
 tick_resolves rules t = expire_resolves rules (due_count t.snapshot) t
 
-abbrev pub notice_resolves : {S : Type 0} → Rules S → Snapshot S → Notice → List Resolution
-notice_resolves rules s (notice.Tick from) = tick_resolves rules (advance (so_far s []))
-notice_resolves rules s _ = []
+abbrev pub notice_resolves : {S : Type 0} → Rules S → Handled S → Notice → List Resolution
+notice_resolves rules t (notice.Tick from) = tick_resolves rules (advance t)
+notice_resolves rules t _ = []
 
 -- ---- the requests that an envelope resolves
 
-abbrev pub body_resolves : {S : Type 0} → Rules S → Snapshot S → Taken → Plain → List Resolution
-body_resolves rules s e («plain».System what) = notice_resolves rules s what
-body_resolves rules s e body = if is_response e then resolution_of s.pending e.mid.number body else []
+abbrev pub body_resolves : {S : Type 0} → Rules S → Handled S → Taken → Plain → List Resolution
+body_resolves rules t e («plain».System what) = notice_resolves rules t what
+body_resolves rules t e body = if is_response e then resolution_of t.snapshot.pending e.mid.number body else []
 
-abbrev pub resolves_where : {S : Type 0} → Bool → Rules S → Snapshot S → Taken → List Resolution
-resolves_where true rules s e = body_resolves rules s e e.body
-resolves_where false rules s e = []
+abbrev pub resolves_where : {S : Type 0} → Bool → Rules S → Handled S → Taken → List Resolution
+resolves_where true rules t e = body_resolves rules t e e.body
+resolves_where false rules t e = []
 
 -- a response that is waited for, or a tick, to an actor that hasn't quit
-abbrev pub resolves : {S : Type 0} → Rules S → Snapshot S → Taken → List Resolution
-resolves rules s e = resolves_where (is_none s.quit) rules s e
+abbrev pub resolves : {S : Type 0} → Rules S → Handled S → Taken → List Resolution
+resolves rules t e = resolves_where (is_none t.snapshot.quit) rules t e
 
 -- those of a drain, in order
 abbrev pub turn_resolves : {S : Type 0} → Rules S → (Handled S → List Resolution) → Handled S → Option (Taken × Snapshot S) → List Resolution
 turn_resolves rules go t None = []
-turn_resolves rules go t (Some p) = resolves rules p.1 p.0 ++ go (handle_one rules (with_snapshot t p.1) p.0)
+turn_resolves rules go t (Some p) = resolves rules (with_snapshot t p.1) p.0 ++ go (handle_one rules (with_snapshot t p.1) p.0)
 
 abbrev pub drain_resolves : {S : Type 0} → Rules S → ℕ → Handled S → List Resolution
 drain_resolves rules zero t = []
@@ -134,15 +134,14 @@ module _ {S : Type 0} (rules : Rules S) where
   -- an envelope resolves what its handling takes out of the waiting requests; these change else only by
   -- issuing and by a quit
   abbrev pub TakesOutWhatItResolves : Type 0
-  TakesOutWhatItResolves = (t : Handled S) (e : Taken) (n : ℕ) → AreNumbered t.snapshot.pending
-      → (handle_one rules t e).snapshot.quit ≡ None
-      → waiting_count (handle_one rules t e).snapshot.pending n + times_resolved n (resolves rules t.snapshot e)
+  TakesOutWhatItResolves = (t : Handled S) (e : Taken) (n : ℕ) → (handle_one rules t e).snapshot.quit ≡ None
+      → waiting_count (handle_one rules t e).snapshot.pending n + times_resolved n (resolves rules t e)
       ≡ waiting_count t.snapshot.pending n + given_between t.snapshot.pending.next (handle_one rules t e).snapshot.pending.next n
 
   -- and where it is a response, the behaviour is given that input, and no other
   abbrev pub GivesWhatItResolves : Type 0
   GivesWhatItResolves = (t : Handled S) (e : Taken) → is_response e ≡ true
-      → (handle_one rules t e).snapshot.behavior ≡ fed rules t.snapshot.behavior (given_for (resolves rules t.snapshot e))
+      → (handle_one rules t e).snapshot.behavior ≡ fed rules t.snapshot.behavior (given_for (resolves rules t e))
 
   -- nothing reaches the behaviour of an actor that has quit, and it resolves nothing
   pub record StaysQuit (s : Snapshot S) (batch : List Taken) : Type 0 where

@@ -11,9 +11,9 @@ use Rattle.caf_message.specs.Fits.{Fits}
 use Rattle.caf_signature.specs.declared.interface.Signature.{Signature}
 use Rattle.caf_actor.specs.declared.origin.Origin.{Origin}
 use Rattle.caf_actor.specs.PlainInput.{PlainInput, Stop, Content, Tick, content_given}
-use Rattle.caf_actor.specs.PlainOutput.{PlainOutput}
+use Rattle.caf_actor.specs.PlainOutput.{PlainOutput, content_sent}
 use Rattle.caf_actor.specs.PlainOutput as output
-use Rattle.caf_actor.specs.PlainReaction.{PlainAnswer, PlainReaction}
+use Rattle.caf_actor.specs.PlainReaction.{PlainAnswer, PlainReaction, content_answered}
 use Rattle.caf_actor.specs.PlainReaction as answer
 
 pub record Rules (S : Type 0) : Type 0 where
@@ -64,25 +64,19 @@ MayBeFed rules s (i ∷ is) = MayBeGiven rules s i × MayBeFed rules (rules.next
 
 -- ---- which contents fit
 
-abbrev pub FitsWhereGiven : (ℕ → Option ShapeTree) → Option (List ℕ) → Type 0
-FitsWhereGiven shape_of None = Unit {0}
-FitsWhereGiven shape_of (Some words) = Fits shape_of words
+-- the words have the property, where there are some
+abbrev pub WhereGiven : (List ℕ → Type 0) → Option (List ℕ) → Type 0
+WhereGiven P None = Unit {0}
+WhereGiven P (Some words) = P words
 
 abbrev pub InputFits : (ℕ → Option ShapeTree) → PlainInput → Type 0
-InputFits shape_of i = FitsWhereGiven shape_of (content_given i)
+InputFits shape_of i = WhereGiven (Fits shape_of) (content_given i)
 
 abbrev pub OutputFits : (ℕ → Option ShapeTree) → PlainOutput → Type 0
-OutputFits shape_of (output.Tell to priority words) = Fits shape_of words
-OutputFits shape_of (output.TellMany places priority words) = Fits shape_of words
-OutputFits shape_of (output.Request to priority mode tag expected words) = Fits shape_of words
-OutputFits shape_of (output.Deliver requester number words) = Fits shape_of words
-OutputFits shape_of (output.Delay ticks to priority words) = Fits shape_of words
-OutputFits shape_of (output.Within ticks to priority mode tag expected words) = Fits shape_of words
-OutputFits shape_of _ = Unit {0}
+OutputFits shape_of o = WhereGiven (Fits shape_of) (content_sent o)
 
 abbrev pub AnswerFits : (ℕ → Option ShapeTree) → PlainAnswer → Type 0
-AnswerFits shape_of (answer.Value words) = Fits shape_of words
-AnswerFits shape_of _ = Unit {0}
+AnswerFits shape_of a = WhereGiven (Fits shape_of) (content_answered a)
 
 pub record ReactionFits (shape_of : ℕ → Option ShapeTree) (r : PlainReaction) : Type 0 where
   pub outputs : AllByRecursion (OutputFits shape_of) r.outputs

@@ -1,4 +1,4 @@
-ghost use Rattle.std.specs.Prelude.{◌≡◌, ◌≢◌, ℕ, Option, [], ◌∷◌, ◌++◌, ◌<◌, ◌≤◌, ◌^◌, map, OnOk, OnErr, IfOk, true, false};
+ghost use Rattle.std.specs.Prelude.{◌≡◌, ◌≢◌, ℕ, Option, [], ◌∷◌, ◌++◌, ◌<◌, ◌≤◌, ◌^◌, map, OnOk, OnErr, IfOk, Bool, IsTrue, true, false};
 ghost use Rattle.std.specs.List.{AllByRecursion};
 ghost use Rattle.caf_types.specs.ShapeTree.{ShapeTree};
 ghost use Rattle.caf_types.specs.Table.{shape_at};
@@ -7,8 +7,10 @@ ghost use Rattle.caf_message.specs.Entries.{HasEntries};
 ghost use Rattle.caf_message.specs.Envelope.{plain_envelope, EnvelopeFits};
 ghost use Rattle.caf_message.specs.declared.envelope.Taken.{Taken};
 ghost use Rattle.caf_actor.specs.PlainForms.{plain_post};
-ghost use Rattle.caf_actor.specs.Actor.{untried, add_handled, CachesFit};
-ghost use Rattle.caf_actor.specs.Snapshot.{opening, vacant};
+ghost use Rattle.caf_message.specs.Entries.{entry_shape};
+ghost use Rattle.caf_actor.specs.Actor.{untried, IsAtWork, IsActor, add_handled, CachesFit, DelaysFit};
+ghost use Rattle.caf_actor.specs.Leads.{StaysWithin, LeadsWithin, GoesWithin, IsPostInForm, PostFits};
+ghost use Rattle.caf_actor.specs.Snapshot.{fresh, opening, vacant};
 ghost use Rattle.caf_actor.specs.Drain.{batch_of, stamp_due, left_in_batch};
 
 use crate::journal::with_copies;
@@ -29,11 +31,13 @@ pub struct Actor<B: Behavior> {
 }
 
 impl<B: Behavior> Model for Actor<B> {
-    ghost use Rattle.caf_actor.specs.Actor.{ActorState};
+    ghost use Rattle.caf_actor.specs.Actor.{ActorState, IsActor};
 
     ghost Value = { ActorState B };
 
     ghost view = { λ actor. record { snapshot = actor.snapshot; journal = actor.journal; handled = actor.handled; is_broken = actor.is_broken } };
+
+    ghost invariant = { λ actor. IsActor B.is_valid B.rules (record { snapshot = actor.snapshot; journal = actor.journal; handled = actor.handled; is_broken = actor.is_broken }) };
 }
 
 impl<B: Behavior> Actor<B> {
@@ -44,8 +48,7 @@ impl<B: Behavior> Actor<B> {
         requires stamp { stamp ≤ LATEST_STAMP }
         ensures { IfOk result (λ actor. actor ≡ untried (opening B.rules place behavior stamp)) }
     {
-        let snapshot = Snapshot::new(alloc, true, place, behavior, stamp)?;
-        Ok(Actor::untried(alloc, snapshot))
+        Actor::start(alloc, true, place, behavior, stamp)
     }
 
     /// An actor at that place that nobody has started yet: a child of another one. Until it begins it
@@ -56,26 +59,36 @@ impl<B: Behavior> Actor<B> {
         requires stamp { stamp ≤ LATEST_STAMP }
         ensures { IfOk result (λ actor. actor ≡ untried (vacant B.rules place behavior stamp)) }
     {
-        let snapshot = Snapshot::new(alloc, false, place, behavior, stamp)?;
-        Ok(Actor::untried(alloc, snapshot))
+        Actor::start(alloc, false, place, behavior, stamp)
     }
 
-    fn untried(alloc: Global, snapshot: Snapshot<B>) -> Actor<B>
-        ensures { result ≡ untried snapshot }
+    fn start(
+        alloc: Global,
+        has_begun: bool,
+        place: u32,
+        behavior: B,
+        stamp: u64,
+    ) -> Result<Actor<B>, Memory>
+        requires place { place < PLACES }
+        requires own { place ≡ B.rules.place behavior }
+        requires stamp { stamp ≤ LATEST_STAMP }
+        ensures { IfOk result (λ actor. actor ≡ untried (fresh B.rules has_begun place behavior stamp)) }
     {
-        Actor {
+        let snapshot = Snapshot::new(alloc, has_begun, place, behavior, stamp)?;
+        Ok(Actor {
             snapshot,
             journal: Seq::new(alloc),
             handled: 0,
             is_broken: false,
-        }
+        })
     }
 
     /// Takes a batch: it gets its stamp, goes into the lists and into the journal, and the next
     /// envelope is handled, again and again, until none is eligible. What the actor sends comes back
     /// in the order of sending.
     ///
-    /// After want of memory the actor is broken, and every later batch answers the same.
+    /// After want of memory the actor is broken: its journal stays, and every later batch answers the
+    /// same and changes nothing.
     pub fn batch(
         &mut self,
         alloc: Global,
@@ -94,8 +107,20 @@ impl<B: Behavior> Actor<B> {
         ensures handled { OnOk result (self.new.handled ≡ add_handled self.old.handled (left_in_batch B.rules self.old.snapshot (map plain_envelope batch))) }
         ensures fit { (shape_of : ℕ → Option ShapeTree) → CachesFit shape_of self.old.snapshot.caches → AllByRecursion (EnvelopeFits shape_of) (map plain_envelope batch)
             → OnOk result (CachesFit shape_of self.new.snapshot.caches) }
+        ensures delays_fit { CachesFit (entry_shape B.entries) self.old.snapshot.caches → DelaysFit (entry_shape B.entries) self.old.snapshot.delays → AllByRecursion (EnvelopeFits (entry_shape B.entries)) (map plain_envelope batch)
+            → OnOk result (DelaysFit (entry_shape B.entries) self.new.snapshot.delays) }
+        ensures posts_fit { CachesFit (entry_shape B.entries) self.old.snapshot.caches → DelaysFit (entry_shape B.entries) self.old.snapshot.delays → AllByRecursion (EnvelopeFits (entry_shape B.entries)) (map plain_envelope batch)
+            → IfOk result (λ posts. AllByRecursion (PostFits (entry_shape B.entries)) (map plain_post posts)) }
+        ensures form { IfOk result (λ posts. AllByRecursion IsPostInForm (map plain_post posts)) }
+        ensures within { (known : ℕ → Bool) → StaysWithin (λ p. IsTrue (known p)) B.rules self.old.snapshot → AllByRecursion (LeadsWithin (λ p. IsTrue (known p))) (map plain_envelope batch)
+            → OnOk result (StaysWithin (λ p. IsTrue (known p)) B.rules self.new.snapshot) }
+        ensures receivers { (known : ℕ → Bool) → StaysWithin (λ p. IsTrue (known p)) B.rules self.old.snapshot → AllByRecursion (LeadsWithin (λ p. IsTrue (known p))) (map plain_envelope batch)
+            → IfOk result (λ posts. AllByRecursion (GoesWithin (λ p. IsTrue (known p))) (map plain_post posts)) }
+        ensures work { OnOk result (IsAtWork B.is_valid B.rules self.new) }
         ensures whole { OnOk result ((self.old.is_broken ≡ false) × (self.new.is_broken ≡ false)) }
         ensures broken { OnErr result (self.new.is_broken ≡ true) }
+        ensures kept { OnErr result (self.new.journal ≡ self.old.journal) }
+        ensures unchanged { self.old.is_broken ≡ true → self.new ≡ self.old }
     {
         if self.is_broken {
             return Err(Memory);
@@ -116,7 +141,8 @@ impl<B: Behavior> Actor<B> {
 
     /// The place that it was made with.
     pub fn place(&self) -> u32
-        ensures { result ≡ self.now.snapshot.place }
+        ensures place { result ≡ self.now.snapshot.place }
+        ensures work { IsActor B.is_valid B.rules self.now }
     {
         self.snapshot.place
     }
@@ -151,7 +177,8 @@ impl<B: Behavior> Actor<B> {
 
     /// All batches that it took, in their order.
     pub fn journal(&self) -> &Journal
-        ensures { result.now ≡ self.now.journal }
+        ensures journal { result.now ≡ self.now.journal }
+        ensures work { IsActor B.is_valid B.rules self.now }
     {
         &self.journal
     }

@@ -32,7 +32,8 @@ pub trait Behavior: Entries + Drop {
 
     /// The places of its children, which belong to it alone. They don't change.
     fn reserve(&self) -> &Places
-        ensures { result.now ≡ rules.reserve self.now };
+        ensures value { result.now ≡ rules.reserve self.now }
+        ensures valid { is_valid self.now };
 
     /// Whether content of these types is kept for later.
     fn skips(&self, types: &TypeIds) -> bool

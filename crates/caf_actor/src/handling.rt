@@ -121,7 +121,7 @@ impl<B: Behavior> Snapshot<B> {
     ) -> Result<(), Memory>
         requires entries { HasEntries (seen table.now) B.entries }
         ensures handled { OnOk result (handling.handle_notice B.rules (reached self.old posts.old) notice ≡ reached self.new posts.new) }
-        ensures free { TakesNoMemory notice → IsOk result }
+        ensures free { TakesNoMemory self.old.observers notice → IsOk result }
     {
         match notice {
             Notice::Start => self.give(alloc, table, posts, Input::Start),

@@ -2,7 +2,7 @@
 //! places, and laws that follow from the definitions alone. A law is the contract of a function that
 //! does nothing.
 ghost use Rattle.caf_actor.specs.Carriers.{EndsAsDeclared, CarriersRest};
-ghost use Rattle.caf_actor.specs.Resolutions.{NoneAfterQuitting};
+ghost use Rattle.caf_actor.specs.Resolutions.{TakesOutWhatItResolves, GivesWhatItResolves, NoneAfterQuitting};
 
 use crate::Behavior;
 pub use crate::sharing::{address, another_message};
@@ -22,4 +22,16 @@ pub fn carriers_rest_in_holds_and_lists<B: Behavior>()
 /// request.
 pub fn none_handled_after_quitting<B: Behavior>()
     ensures { NoneAfterQuitting B.rules }
+{}
+
+/// What an envelope resolves is what its handling takes out of the waiting requests; these change else
+/// only by issuing and by a quit.
+pub fn takes_out_what_it_resolves<B: Behavior>()
+    ensures { TakesOutWhatItResolves B.rules }
+{}
+
+/// A response gives the behaviour what it resolves, and nothing else; a response that isn't waited for
+/// gives it nothing.
+pub fn gives_what_it_resolves<B: Behavior>()
+    ensures { GivesWhatItResolves B.rules }
 {}

@@ -48,7 +48,8 @@ impl<B: Behavior> Snapshot<B> {
         behavior: B,
         stamp: u64,
     ) -> Result<Snapshot<B>, Memory>
-        ensures { IfOk result (λ snapshot. snapshot ≡ fresh B.rules has_begun place behavior stamp) }
+        ensures fresh { IfOk result (λ snapshot. snapshot ≡ fresh B.rules has_begun place behavior stamp) }
+        ensures valid { IfOk result (λ snapshot. B.is_valid snapshot.behavior) }
     {
         let unstarted = Vec::from_slice(alloc, behavior.reserve().as_slice())?;
         Ok(Snapshot {

@@ -1,4 +1,4 @@
-ghost use Rattle.std.specs.Prelude.{◌≡◌, not, IfOk, OnOk, OnErr};
+ghost use Rattle.std.specs.Prelude.{◌≡◌, not, true, IfOk, IsOk, OnOk, OnErr};
 ghost use Rattle.std.specs.List.Sorted.{IsStrictlyIncreasing};
 ghost use Rattle.caf_observe.specs.Places.{has_place, with_place, without_place};
 ghost use Rattle.caf_observe.specs.Observers.{AreSets, no_observers, with_link, without_link, with_monitor, without_monitor};
@@ -40,11 +40,12 @@ impl Observers {
         }
     }
 
-    /// Adds `place` to the links, and says whether it was new. After want of memory the sets are as
-    /// before.
+    /// Adds `place` to the links, and says whether it was new. Only a new place can want memory; after
+    /// want of memory the sets are as before.
     pub fn link(&mut self, place: u32) -> Result<bool, Memory>
         ensures added { OnOk result (self.new ≡ with_link self.old place) }
         ensures new { IfOk result (λ new. new ≡ not (has_place self.old.links place)) }
+        ensures known { has_place self.old.links place ≡ true → IsOk result }
         ensures kept { OnErr result (self.new ≡ self.old) }
         ensures sets { AreSets self.new }
     {
@@ -60,11 +61,12 @@ impl Observers {
         take_out(&mut self.links, place)
     }
 
-    /// Adds `place` to the monitors, and says whether it was new. After want of memory the sets are
-    /// as before.
+    /// Adds `place` to the monitors, and says whether it was new. Only a new place can want memory;
+    /// after want of memory the sets are as before.
     pub fn watch(&mut self, place: u32) -> Result<bool, Memory>
         ensures added { OnOk result (self.new ≡ with_monitor self.old place) }
         ensures new { IfOk result (λ new. new ≡ not (has_place self.old.monitors place)) }
+        ensures known { has_place self.old.monitors place ≡ true → IsOk result }
         ensures kept { OnErr result (self.new ≡ self.old) }
         ensures sets { AreSets self.new }
     {
@@ -100,6 +102,7 @@ fn add(places: &mut BTreeSet<u32>, place: u32) -> Result<bool, Memory>
     requires { IsStrictlyIncreasing places.old.keys }
     ensures added { OnOk result (places.new.keys ≡ with_place places.old.keys place) }
     ensures new { IfOk result (λ new. new ≡ not (has_place places.old.keys place)) }
+    ensures known { has_place places.old.keys place ≡ true → IsOk result }
     ensures kept { OnErr result (places.new.keys ≡ places.old.keys) }
     ensures set { IsStrictlyIncreasing places.new.keys }
 {

@@ -75,7 +75,7 @@ echo_fits shape_of (Some s) words h = go (bytes_eq (ids_of s.result) (ids_of s.i
     go true = h
     go false = tt
 
-ignore_fits : (shape_of : ℕ → Option ShapeTree) (origin : Origin) → AnswerFits shape_of (ignore origin)
+pub ignore_fits : (shape_of : ℕ → Option ShapeTree) (origin : Origin) → AnswerFits shape_of (ignore origin)
 ignore_fits shape_of origin = go (is_asked origin)
   where
     go : (b : Bool) → AnswerFits shape_of (if b then answer.Error sec.Failed else answer.Nothing)
@@ -115,7 +115,7 @@ both_fit shape_of (x ∷ xs) ys h k = (h.0, both_fit shape_of xs ys h.1 k)
 reaction_fits : (shape_of : ℕ → Option ShapeTree) (s : Scripted) (to : ℕ) (origin : Origin) (words : List ℕ) (a : Act) → Fits shape_of words → ReactionFits shape_of (reaction_to s to origin words a)
 reaction_fits shape_of s to origin words a h = record { outputs = both_fit shape_of (outputs_by s to origin words a.sending) (outputs_by s to origin words a.afterwards) (outputs_fit shape_of s to origin words a.sending h) (outputs_fit shape_of s to origin words a.afterwards h); answer = answer_fits shape_of s to origin words a.reply h }
 
-number_fits : (shape_of : ℕ → Option ShapeTree) → shape_of 2 ≡ Some unsigned → (n : ℕ) → Fits shape_of (number_content n)
+pub number_fits : (shape_of : ℕ → Option ShapeTree) → shape_of 2 ≡ Some unsigned → (n : ℕ) → Fits shape_of (number_content n)
 number_fits shape_of known n = record {
   ids = 2 ∷ [];
   values = more (an_unsigned (min n 18446744073709551615)) no_data;
@@ -151,7 +151,7 @@ all_fit shape_of known s (Failed tag why) h = cue_fits shape_of known s (without
 all_fit shape_of known s (Down place why) h = cue_fits shape_of known s (without_ticks (cue_now s))
 all_fit shape_of known s Tick h = cue_fits shape_of known s (cue_now s)
 
-entry_is_there : finite.get scripted_entries 2 ≡ Some (named (codes "unsigned") unsigned)
+pub entry_is_there : finite.get scripted_entries 2 ≡ Some (named (codes "unsigned") unsigned)
 entry_is_there = finite.get-insert nat_cmp_total finite.empty 2 (named (codes "unsigned") unsigned) 2
 
 pub fits_its_table : FitsItsTable AnyValue scripted_rules scripted_entries
@@ -181,6 +181,9 @@ is_no_nothing s to origin words reply.Ignore asked = rw asked refl
 is_no_nothing s to origin words reply.Delegate asked = refl
 is_no_nothing s to origin words reply.Hold asked = refl
 
+pub ignore_answers : (origin : Origin) → 0 < origin.mid.number → ignore origin ≡ answer.Nothing → ⊥
+ignore_answers origin asked q = let no : ◌≡◌ {A = PlainAnswer} (answer.Error sec.Failed) answer.Nothing = rw (lt-ltb 0 origin.mid.number asked) at q in cc
+
 pub answers_requests : AnswersRequests AnyValue scripted_rules
 answers_requests s origin words valid given asked q =
     let here = is_no_nothing s (first_peer s.place s.peers) origin words (act_now s).reply (lt-ltb 0 origin.mid.number asked) in
@@ -200,7 +203,7 @@ echo_declares interface (Some s) words value e q = go (bytes_eq (ids_of s.result
         rw e (ap (λ (ids : List ℕ). Some ids) (result ∙ takes ∙ ap ids_in it))
     go false other = let no : ◌≡◌ {A = PlainAnswer} (answer.Error sec.Failed) (answer.Value value) = rw other at q in cc
 
-ignores : (origin : Origin) (value : List ℕ) → ignore origin ≡ answer.Value value → ⊥
+pub ignores : (origin : Origin) (value : List ℕ) → ignore origin ≡ answer.Value value → ⊥
 ignores origin value q = go (is_asked origin) refl
   where
     go : (b : Bool) → is_asked origin ≡ b → ⊥

@@ -1,3 +1,4 @@
 pub mod Script
 pub mod Scripted
 pub mod Laws
+pub mod Relay

@@ -36,7 +36,7 @@ pub(crate) fn fan_out(alloc: Global, retains: u8) -> Result<Seq<Post>, MessageFa
 }
 
 /// A message with a number whose room shrank so many times.
-fn retained_number(alloc: Global, retains: u8) -> Result<Message, MessageFault>
+pub(crate) fn retained_number(alloc: Global, retains: u8) -> Result<Message, MessageFault>
     ensures { IfOk result (λ message. FitsTable built_in message.content) }
 {
     let mut message = Message::of(alloc, &Number(7))?;
@@ -58,7 +58,7 @@ pub(crate) fn narrower(message: Message) -> Result<Message, Memory>
 }
 
 /// The message as the one content of a batch.
-fn batch_with(alloc: Global, message: Message) -> Result<Batch, Memory>
+pub(crate) fn batch_with(alloc: Global, message: Message) -> Result<Batch, Memory>
     requires { FitsTable built_in message.content }
     ensures fits { IfOk result (λ batch. AllByRecursion (EnvelopeFits (shape_at built_in)) (map plain_envelope batch)) }
     ensures stamps { IfOk result (λ batch. AllByRecursion (λ (e : Taken). e.stamp < 1099511627776) (map plain_envelope batch)) }

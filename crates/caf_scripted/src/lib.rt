@@ -8,16 +8,20 @@
 #![tactic(auto)]
 
 mod act;
+mod relay;
 mod rows;
 mod scripted;
 mod stage;
 
 pub use act::{Act, Cue, Note, Reply, Sending, Signal};
+pub use relay::{RELAYED, Relay};
 pub use rows::{Nothing, Number};
 pub use scripted::Scripted;
 pub use stage::{Letter, Line, Part, Played, Stage, What, add_lines, batch_of, play};
 
 #[cfg(test)]
 mod fans;
+#[cfg(test)]
+mod relaying;
 #[cfg(test)]
 mod tests;

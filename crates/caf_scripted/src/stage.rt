@@ -226,7 +226,7 @@ impl Stage {
 }
 
 /// [unsigned] to [unsigned], and [unit] to [unit] where `takes_unit`.
-fn interface(alloc: Global, takes_unit: bool) -> Result<Interface, Memory> {
+pub(crate) fn interface(alloc: Global, takes_unit: bool) -> Result<Interface, Memory> {
     let mut signatures = Seq::new(alloc);
     signatures.push(signature(alloc, 2)?)?;
     if takes_unit {

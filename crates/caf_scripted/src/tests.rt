@@ -1,6 +1,7 @@
 use crate::fans::{fan_out, narrower};
+use crate::relaying::{Relayed, relay};
 use crate::{
-    Act, Cue, Letter, Line, Note, Number, Part, Played, Reply, Sending, Signal, What, play,
+    Act, Cue, Letter, Line, Note, Number, Part, Played, RELAYED, Reply, Sending, Signal, What, play,
 };
 use caf_actor::Post;
 use caf_actor::laws::address;
@@ -594,5 +595,26 @@ fn a_fan_out_of_an_actor_shares_one_tuple(rt: HostRuntime) -> Result<(), Fail> {
     assert_eq!(rt; first_replaced(alloc, shared)?, Replaced::Copied(3));
     let copied = fan_out(alloc, 5)?;
     assert_eq!(rt; first_replaced(alloc, copied)?, Replaced::InPlace);
+    Ok(())
+}
+
+/// A relay writes into the message that it is given, where that is the only reference: its room stays
+/// that of a message that was retained once. Beside another reference it writes into a new tuple, which
+/// has the room of a new one.
+#[test]
+fn a_relay_writes_into_its_only_reference(rt: HostRuntime) -> Result<(), Fail> {
+    let alloc = rt.alloc();
+    let expected = Relayed {
+        to: 3,
+        number: Some(RELAYED),
+        room: 1 << 51,
+        others: 0,
+    };
+    assert_eq!(rt; relay(alloc, 1, false)?, Some(expected));
+    let copied = Relayed {
+        room: 1 << 62,
+        ..expected
+    };
+    assert_eq!(rt; relay(alloc, 1, true)?, Some(copied));
     Ok(())
 }
