@@ -1,6 +1,5 @@
 -- Each step keeps the inbox rule, and what a reader and a lane learn from it.
 use Rattle.std.proofs.Common.{◌≡◌, ◌≢◌, ℕ, ◌==◌, true, false, if◌then◌else◌, List, [], ◌∷◌, ◌++◌, length, set, map, Contains, sym, refl, ap, ◌∙◌, subst, append_assoc, append-nil, eq-eqb, ne_eqb}
-use Rattle.std.specs.List.{AllByRecursion}
 use Rattle.std.proofs.lemmas.List.{map-append}
 use Rattle.std.proofs.lemmas.List.Elements.{Contains-append_left, Contains-push}
 use mathlib.Core.Option.{some}
@@ -13,7 +12,7 @@ use Rattle.caf_inbox.specs.declared.view.Note.{Note}
 use Rattle.caf_inbox.specs.declared.view.View.{View}
 use Rattle.caf_inbox.specs.declared.view.Role.{Role}
 use Rattle.caf_inbox.specs.declared.view.Role.TheVariants.{Reading, Sending, LaneNoted, ReaderNoted, Spent}
-use Rattle.caf_inbox.specs.Senders.{from_sender, AreFrom, IsPrefix, AreWithin, AreBefore, AreBehind}
+use Rattle.caf_inbox.specs.Senders.{from_sender, AreFrom, IsPrefix, AreWithin, AreBehind}
 use Rattle.caf_inbox.specs.Views.{new_reader, new_lane, with_lane, logged, lane_note, reader_note, with_lane_note, with_reader_note, spent}
 use Rattle.caf_inbox.specs.Rule.{Knows, InboxRule}
 use Rattle.caf_inbox.proofs.ListLemmas.{Each, each_set, each_push, each_one, stood_at, all_push, all_middle, all_last, all_weaker}
@@ -87,13 +86,13 @@ pushes n place v x is own held views room d at =
     let mine = at_role d place v Sending is at in
     let all : List Taken = all_of d.taken held in
     let joined : all ++ e ∷ [] ≡ all_of d.taken (held ++ x ∷ []) =
-        append_assoc d.taken (map plain_envelope held) (e ∷ []) ∙ ap (λ l. d.taken ++ l) (sym (map-append plain_envelope held (x ∷ []))) in
+    append_assoc d.taken (map plain_envelope held) (e ∷ []) ∙ ap (λ l. d.taken ++ l) (sym (map-append plain_envelope held (x ∷ []))) in
     let F : List Taken → ℕ → View → Type 0 = λ l j u. Knows d.reader d.lane d.senders d.taken l j u u.role in
     let here : Knows d.reader d.lane d.senders d.taken (all ++ e ∷ []) place w Sending =
-        (mine.0, mine.1, ap (λ l. l ++ e ∷ []) mine.2 ∙ sym (from_sender-push_own v.sender all e own), mine.3) in
+    (mine.0, mine.1, ap (λ l. l ++ e ∷ []) mine.2 ∙ sym (from_sender-push_own v.sender all e own), mine.3) in
     let each : Each (F (all ++ e ∷ [])) (set views place w) =
-        each_set (F (all ++ e ∷ [])) views place w (subst (λ r. Knows d.reader d.lane d.senders d.taken (all ++ e ∷ []) place w r) (sym is) here)
-        (λ j u other k. after_push d.reader d.lane d.senders d.taken all j u e u.role (λ p same. other (p ∙ ap d.lane (sym same ∙ own) ∙ sym mine.0)) (d.each j u k)) in
+    each_set (F (all ++ e ∷ [])) views place w (subst (λ r. Knows d.reader d.lane d.senders d.taken (all ++ e ∷ []) place w r) (sym is) here)
+    (λ j u other k. after_push d.reader d.lane d.senders d.taken all j u e u.role (λ p same. other (p ∙ ap d.lane (sym same ∙ own) ∙ sym mine.0)) (d.each j u k)) in
     let known : AreFrom d.senders (all ++ e ∷ []) = all_push (λ a. Contains d.senders a.sender) all e d.from_lanes (subst (λ a. Contains d.senders a) (sym own) mine.1) in (
       w,
       record {
@@ -118,8 +117,8 @@ pops place v is x held views d at =
     let F : List Taken → ℕ → View → Type 0 = λ l j u. Knows d.reader d.lane d.senders more l j u u.role in
     let here : Knows d.reader d.lane d.senders more all place w Reading = (mine.0, ap (λ l. l ++ e ∷ []) mine.1, mine.2, mine.3) in
     let each : Each (F all) (set views place w) =
-        each_set (F all) views place w (subst (λ r. Knows d.reader d.lane d.senders more all place w r) (sym is) here)
-        (λ j u other k. after_pop d.reader d.lane d.senders d.taken all j u e u.role (λ p. other (p ∙ sym mine.0)) (d.each j u k)) in (
+    each_set (F all) views place w (subst (λ r. Knows d.reader d.lane d.senders more all place w r) (sym is) here)
+    (λ j u other k. after_pop d.reader d.lane d.senders d.taken all j u e u.role (λ p. other (p ∙ sym mine.0)) (d.each j u k)) in (
       w,
       record {
         reader = d.reader;
@@ -144,8 +143,8 @@ cuts_lane place v s is new held views d at =
     let F : ℕ → View → Type 0 = λ j u. Knows d.reader lane senders d.taken all j u u.role in
     let here : Knows d.reader lane senders d.taken all place w Reading = (mine.0, mine.1, ap (λ l. l ++ s ∷ []) mine.2, mine.3) in
     let old : Each F vs =
-        each_set F views place w (subst (λ r. Knows d.reader lane senders d.taken all place w r) (sym is) here)
-        (λ j u other k. after_lane d.reader d.lane d.senders d.taken all j u s (length vs) u.role (λ p. other (p ∙ sym mine.0)) fresh (d.each j u k)) in
+    each_set F views place w (subst (λ r. Knows d.reader lane senders d.taken all place w r) (sym is) here)
+    (λ j u other k. after_lane d.reader d.lane d.senders d.taken all j u s (length vs) u.role (λ p. other (p ∙ sym mine.0)) fresh (d.each j u k)) in
     let self : (s == s) ≡ true = eq-eqb s s refl in
     record {
       reader = d.reader;
@@ -180,7 +179,7 @@ meets_lane place v other n is is_note held views d at two at_note =
     let mine = at_role d place v Reading is at in
     let theirs = at_role d other n LaneNoted is_note (stood_at views place other (with_lane_note v n) n two at_note) in
     let here : Knows d.reader d.lane d.senders d.taken all place (with_lane_note v n) Reading =
-        (mine.0, mine.1, mine.2, all_push (λ (m : Note). IsPrefix m.pushed (from_sender m.sender all)) v.met (record { sender = n.sender; pushed = n.log }) mine.3 theirs) in
+    (mine.0, mine.1, mine.2, all_push (λ (m : Note). IsPrefix m.pushed (from_sender m.sender all)) v.met (record { sender = n.sender; pushed = n.log }) mine.3 theirs) in
     meets_note place (with_lane_note v n) other held views d (subst (λ r. Knows d.reader d.lane d.senders d.taken all place (with_lane_note v n) r) (sym is) here)
 
 pub meets_reader : (place : ℕ) (v : View) (other : ℕ) (n : View) → v.role ≡ Sending → n.role ≡ ReaderNoted → Merges InboxRule place v other n (with_reader_note v n) spent
@@ -189,7 +188,7 @@ meets_reader place v other n is is_note held views d at two at_note =
     let mine = at_role d place v Sending is at in
     let theirs = at_role d other n ReaderNoted is_note (stood_at views place other (with_reader_note v n) n two at_note) in
     let here : Knows d.reader d.lane d.senders d.taken all place (with_reader_note v n) Sending =
-        (mine.0, mine.1, mine.2, all_push (λ (m : List Taken). IsPrefix m d.taken) v.heard n.log mine.3 theirs) in
+    (mine.0, mine.1, mine.2, all_push (λ (m : List Taken). IsPrefix m d.taken) v.heard n.log mine.3 theirs) in
     meets_note place (with_reader_note v n) other held views d (subst (λ r. Knows d.reader d.lane d.senders d.taken all place (with_reader_note v n) r) (sym is) here)
 
 -- ---- what is learnt

@@ -1,6 +1,5 @@
 -- Envelopes by their senders, as lists grow.
 use Rattle.std.proofs.Common.{◌≡◌, ◌≢◌, ℕ, ◌==◌, true, false, List, [], ◌∷◌, ◌++◌, Contains, sym, refl, ap, ◌∙◌, subst, append_assoc, append-nil, eq-eqb, ne_eqb}
-use Rattle.std.specs.List.{AllByRecursion, filter}
 use Rattle.std.proofs.lemmas.List.Elements.{filter-append, All-contains, All-from_recursion}
 use Rattle.caf_message.specs.declared.envelope.Taken.{Taken}
 use Rattle.caf_inbox.specs.declared.view.Note.{Note}

@@ -1,8 +1,8 @@
 -- What a reader knows as it pops.
-use Rattle.std.proofs.Common.{◌≡◌, ◌≢◌, Option, Some, None, MatchOption, ℕ, List, [], ◌∷◌, ◌++◌, map, Contains, sym, refl, ap, ◌∙◌, subst, append_assoc, append-nil}
+use Rattle.std.proofs.Common.{◌≡◌, ◌≢◌, Option, Some, None, MatchOption, List, [], ◌∷◌, ◌++◌, Contains, sym, ap, ◌∙◌, subst, append_assoc, append-nil}
 use Rattle.caf_message.specs.declared.envelope.Taken.{Taken}
 use Rattle.caf_inbox.specs.declared.view.View.{View}
-use Rattle.caf_inbox.specs.Senders.{AreFrom, AreWithin, IsPrefix}
+use Rattle.caf_inbox.specs.Senders.{AreFrom, IsPrefix}
 use Rattle.caf_inbox.specs.Views.{logged, HasTaken}
 use Rattle.caf_inbox.proofs.ListLemmas.{all_push}
 

@@ -31,7 +31,7 @@ pub fn drain<E: Entries, R: Wait>(
     ensures count { ends.old.empties ≤ ends.new.empties }
     ensures taken { MatchResult result
         (λ batch. HasTaken ends.old.pass.me.view.client ends.new.pass.me.view.client (map plain_envelope batch)
-            × AllByRecursion (EnvelopeFits (entry_shape E.entries)) (map plain_envelope batch))
+        × AllByRecursion (EnvelopeFits (entry_shape E.entries)) (map plain_envelope batch))
         (λ _. (popped : List Taken) × HasTaken ends.old.pass.me.view.client ends.new.pass.me.view.client popped) }
     ensures none { IfOk result (λ batch. batch ≡ []
         → Rose ends.old.empties ends.new.empties × AreWithin ends.old.pass.me.view.client.log ends.old.pass.me.view.client.met) }

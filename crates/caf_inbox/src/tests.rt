@@ -154,9 +154,7 @@ fn four_threads_lose_nothing_and_keep_their_order(rt: HostRuntime) -> Result<(),
 }
 
 // A reader, and the lanes of the senders 0 and 1.
-fn pair(
-    alloc: Global,
-) -> Result<(Reader<NoContent>, Lane<NoContent>, Lane<NoContent>), Memory>
+fn pair(alloc: Global) -> Result<(Reader<NoContent>, Lane<NoContent>, Lane<NoContent>), Memory>
     ensures inboxes { IfOk result (λ r. (r.1.inbox ≡ r.0.inbox) × (r.2.inbox ≡ r.0.inbox)) }
     ensures senders { IfOk result (λ r. (r.1.sender ≡ 0) × (r.2.sender ≡ 1)) }
 {
@@ -200,7 +198,11 @@ fn play<R: Wait>(rt: &R, alloc: Global) -> Result<([u64; 4], bool, bool), Memory
     let (mut reader, next, in_order) = take(rt, alloc, reader, 3);
     let zero_came = all_came(rt, alloc, &mut reader, &mut zero)?;
     let one_came = all_came(rt, alloc, &mut reader, &mut one)?;
-    Ok((next, in_order && zero_went && one_went, zero_came && one_came))
+    Ok((
+        next,
+        in_order && zero_went && one_went,
+        zero_came && one_came,
+    ))
 }
 
 #[test]

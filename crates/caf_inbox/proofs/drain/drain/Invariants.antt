@@ -1,9 +1,8 @@
-use Rattle.std.proofs.Common.{◌≡◌, ◌≢◌, ◌≤◌, [], map}
+use Rattle.std.proofs.Common.{◌≢◌, ◌≤◌, [], map}
 use Rattle.std.specs.List.{AllByRecursion}
 use Rattle.crossbeam_queue.specs.SegTies.{IsSegPassOf}
 use Rattle.caf_message.specs.Entries.{entry_shape}
 use Rattle.caf_message.specs.Envelope.{plain_envelope, EnvelopeFits}
-use Rattle.caf_inbox.specs.declared.view.Role.TheVariants.{Reading}
 use Rattle.caf_inbox.specs.Views.{HasTaken}
 use Rattle.caf_inbox.proofs.drain.drain.Given as goal
 

@@ -12,6 +12,6 @@ invariant_of-self g c =
     let u = c.push_as.new.pass.me.view.client in
     let is = c.self.invariant in
     elim c.match-push_as.branch [
-      in-Ok w ↦ let lane = is_lane_pushed _ v u _ w.in-Ok.ensures.rule.0 is.1 is.2 is.3 in (search rules, lane.0, lane.1, lane.2)
-    | in-Err w ↦ let lane = is_lane_same _ v u w.in-Err.ensures.rule.1 is.1 is.2 is.3 in (search rules, lane.0, lane.1, lane.2)
+      | in-Ok w ↦ let lane = is_lane_pushed _ v u _ w.in-Ok.ensures.rule.0 is.1 is.2 is.3 in (search rules, lane.0, lane.1, lane.2)
+      | in-Err w ↦ let lane = is_lane_same _ v u w.in-Err.ensures.rule.1 is.1 is.2 is.3 in (search rules, lane.0, lane.1, lane.2)
     ]
