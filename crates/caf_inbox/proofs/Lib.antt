@@ -1,0 +1,5 @@
+pub mod ListLemmas
+pub mod SenderLemmas
+pub mod RuleLemmas
+pub mod TakeLemmas
+pub mod MakeLemmas

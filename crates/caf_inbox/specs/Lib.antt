@@ -1,0 +1,4 @@
+pub mod Senders
+pub mod Views
+pub mod Rule
+pub mod Ends
