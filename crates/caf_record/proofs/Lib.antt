@@ -1,0 +1,9 @@
+pub mod ListLemmas
+pub mod BatchLemmas
+pub mod StandsLemmas
+pub mod StampedLemmas
+pub mod MergeLemmas
+pub mod RunLemmas
+pub mod MoreTicksLemmas
+pub mod OutsideLemmas
+pub mod SameRecordLemmas

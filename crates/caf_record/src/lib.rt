@@ -1,0 +1,4 @@
+//! The laws of records and runs.
+#![tactic(auto)]
+
+pub mod laws;
