@@ -7,3 +7,10 @@ pub mod RunLemmas
 pub mod MoreTicksLemmas
 pub mod OutsideLemmas
 pub mod SameRecordLemmas
+pub mod BatchOrderLemmas
+pub mod InOrderLemmas
+pub mod EntryLemmas
+pub mod MergedLemmas
+pub mod ListingLemmas
+pub mod SenderRunLemmas
+pub mod MergeExamples

@@ -35,7 +35,7 @@ all_quiet (e ∷ es) h = go (e.sender == outside) refl (all_quiet es)
     go true q on = let k : AllByRecursion (λ e. is_rest_notice e ≡ false) (e ∷ from_place outside es) = rw q at h in (k.0, on k.1)
     go false q on = let k : AllByRecursion (λ e. is_rest_notice e ≡ false) (from_place outside es) = rw q at h in (rw q refl, on k)
 
-from_own : (x : Taken) (xs : List Taken) → from_place x.sender (x ∷ xs) ≡ x ∷ from_place x.sender xs
+pub from_own : (x : Taken) (xs : List Taken) → from_place x.sender (x ∷ xs) ≡ x ∷ from_place x.sender xs
 from_own x xs = rw (self_equal x.sender) refl
 
 -- what is from a sender isn't nothing where there is such an envelope

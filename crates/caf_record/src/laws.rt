@@ -3,6 +3,8 @@
 //! thread, its runs and the records of actors are defined in `caf_actor` (`Record`, `Run`, `Merge`).
 ghost use Rattle.caf_actor.specs.Record.{machine_of};
 ghost use Rattle.caf_actor.specs.Merge.{MergeIsARun, MergeHasTheRecord, RunIsLegal, RecordGoesOn, RunGoesOn, OutsideInTurn};
+ghost use Rattle.caf_record.specs.BatchOrder.{OrderDecides};
+ghost use Rattle.caf_record.specs.Merged.{LegalIsMerged};
 
 use caf_actor::Behavior;
 
@@ -38,4 +40,16 @@ pub fn run_goes_on<B: Behavior>()
 /// other place takes anything of the outside.
 pub fn outside_in_turn<B: Behavior>()
     ensures { OutsideInTurn (machine_of B.rules) }
+{}
+
+/// What [`merge`](crate::merge) lists of a stored record that is legal, with its start snapshots, is
+/// the merge of which the other laws speak: the stamps of each place rise.
+pub fn legal_is_merged<B: Behavior>()
+    ensures { LegalIsMerged (machine_of B.rules) }
+{}
+
+/// Two legal records that begin alike, and whose batches were taken in one order of places and of
+/// senders, are equal: what a trace tells decides the record, and it need not tell the stamps.
+pub fn order_decides_the_record<B: Behavior>()
+    ensures { OrderDecides (machine_of B.rules) }
 {}
