@@ -1,0 +1,16 @@
+pub mod ListLemmas
+pub mod BatchLemmas
+pub mod StandsLemmas
+pub mod StampedLemmas
+pub mod MergeLemmas
+pub mod RunLemmas
+pub mod MoreTicksLemmas
+pub mod OutsideLemmas
+pub mod SameRecordLemmas
+pub mod BatchOrderLemmas
+pub mod InOrderLemmas
+pub mod EntryLemmas
+pub mod MergedLemmas
+pub mod ListingLemmas
+pub mod SenderRunLemmas
+pub mod MergeExamples
