@@ -1,22 +1,45 @@
-use crate::{Caches, Eligible};
+use crate::{Awaited, Caches, Eligible};
 use caf_message::{Batch, Body, Envelope};
 use caf_types::{Memory, Mid, Notice, Priority, Seq};
 use std::alloc::Global;
 use std::test::Fail;
 
-/// The envelopes from one sequence number up to another.
+/// The notices from one sequence number up to another, and awaited responses.
 #[derive(Drop)]
 struct Between {
     first: u64,
     end: u64,
+    awaited: Awaited,
 }
 
 impl Eligible for Between {
-    ghost use Rattle.std.specs.Prelude.{◌&&◌, nat_le, nat_lt};
+    ghost use Rattle.std.specs.Prelude.{◌&&◌, nat_le, nat_lt, if◌then◌else◌};
+    ghost use Rattle.caf_message.specs.Envelope.{is_response, is_content};
+    ghost use Rattle.caf_mailbox.specs.Awaited.{is_awaited};
 
-    ghost test = { λ between envelope. nat_le between.first envelope.seq && nat_lt envelope.seq between.end };
+    ghost test = { λ between envelope. if is_response envelope then is_awaited between.awaited envelope.mid.number else nat_le between.first envelope.seq && nat_lt envelope.seq between.end };
+
+    fn awaits(&self) -> Awaited {
+        self.awaited
+    }
+
+    fn takes_contents(&self) -> bool {
+        true
+    }
 
     fn eligible(&self, envelope: &mut Envelope) -> bool {
+        let is_response = match &envelope.body {
+            Body::System(_) => false,
+            Body::Failure(_) => true,
+            Body::Content(_) => envelope.mid.response,
+        };
+        if is_response {
+            return match self.awaited {
+                Awaited::Any => true,
+                Awaited::Only(number) => envelope.mid.number == number,
+                Awaited::Nothing => false,
+            };
+        }
         self.first <= envelope.seq && envelope.seq < self.end
     }
 }
@@ -62,7 +85,11 @@ fn seq_of(envelope: Option<Envelope>) -> Option<u64> {
 }
 
 fn next_between(caches: &mut Caches, first: u64, end: u64) -> Option<u64> {
-    seq_of(caches.next(&Between { first, end }))
+    seq_of(caches.next(&Between {
+        first,
+        end,
+        awaited: Awaited::Nothing,
+    }))
 }
 
 fn next_any(caches: &mut Caches) -> Option<u64> {
