@@ -17,3 +17,4 @@ pub mod RecordExamples
 pub mod RunExamples
 pub mod CloserExample
 pub mod TickExamples
+pub mod EffectLemmas

@@ -22,3 +22,4 @@ pub mod Run
 pub mod Merge
 pub mod Resolutions
 pub mod Carriers
+pub mod Effect

@@ -68,6 +68,7 @@ module _ {A : Type 0} (test : A → Bool) where
       on : (o : Option (A × List A)) → keep x (option_map (λ q. (q.0, xs ++ q.1)) o) ≡ option_map (λ q. (q.0, x ∷ (xs ++ q.1))) o
       on None = refl
       on (Some r) = refl
+
       by : (b : Bool) (o : Option (A × List A)) → test x ≡ b → pick test xs ≡ o → (pick test xs ≡ None → pick test (xs ++ ys) ≡ option_map (λ q. (q.0, xs ++ q.1)) (pick test ys))
           → (if b then Some (x, xs) else keep x o) ≡ None → pick test (x ∷ (xs ++ ys)) ≡ option_map (λ q. (q.0, x ∷ (xs ++ q.1))) (pick test ys)
       by true o q is more e' = cc
@@ -117,6 +118,7 @@ content-put x (y ∷ ys) apart = by (nat_le x.0 y.0) (content-put x ys apart)
     under : (b : Bool) → content_of (put x ys) ≡ content_of ys → (if b then y.1 ∷ content_of (put x ys) else content_of (put x ys)) ≡ (if b then y.1 ∷ content_of ys else content_of ys)
     under true rest = ap (λ es. y.1 ∷ es) rest
     under false rest = rest
+
     by : (b : Bool) → content_of (put x ys) ≡ content_of ys → content_of (if b then x ∷ y ∷ ys else y ∷ put x ys) ≡ content_of (y ∷ ys)
     by true rest = rw apart refl
     by false rest = under (is_content y.1) rest
@@ -147,8 +149,8 @@ contents-line l sorted =
     filter-parts is_content (without_numbers (numbered l)) (map plain_envelope l.late.items)
     ∙ ap (λ es. es ++ filter is_content (map plain_envelope l.late.items))
     (content-woven (all_arrived l.notices.items) (woven (all_arrived l.responses.items) (all_arrived l.contents.items)) (others is_system notice_no_content _ sorted.notices.class)
-      ∙ content-woven (all_arrived l.responses.items) (all_arrived l.contents.items) (others is_response response_no_content _ sorted.responses.class)
-      ∙ content-all (all_arrived l.contents.items) sorted.contents.class)
+    ∙ content-woven (all_arrived l.responses.items) (all_arrived l.contents.items) (others is_response response_no_content _ sorted.responses.class)
+    ∙ content-all (all_arrived l.contents.items) sorted.contents.class)
 
 -- ---- how many at the front do not pass
 
@@ -246,6 +248,7 @@ module _ {B : Type 0} (f : B → Arrived) (zs left : List Arrived) (found : Opti
       got : (g : Found) (o : Option Arrived) (b : B) → slice_get zs g.position ≡ o → ◌≡◌ {A = Option (Arrived × List Arrived)} (Some (f b, left)) (option_map (λ x. (x, remove zs g.position)) o) → n ≤ g.position → NonePass test left n
       got g None b is e le = cc
       got g (Some x) b is e le = let same : left ≡ remove zs g.position = second_is (f b) left x (remove zs g.position) e in λ k l z q. all k l z (get-remove zs g.position k z (omega arith) (ap (λ xs. slice_get xs k) (sym same) ∙ q))
+
       by : (r : Option B) (found : Option Found) → option_map (λ b. (f b, left)) r ≡ taken_where zs found → IfNone r (left ≡ zs) → IfSome found (λ g. n ≤ g.position) → NonePass test left n
       by None found e same le = subst (λ xs. NonePass test xs n) (sym same) all
       by (Some b) None e same le = cc
@@ -257,6 +260,7 @@ module _ {B : Type 0} (f : B → Arrived) (zs left : List Arrived) (found : Opti
       got : (g : Found) (o : Option Arrived) (b : B) → slice_get zs g.position ≡ o → ◌≡◌ {A = Option (Arrived × List Arrived)} (Some (f b, left)) (option_map (λ x. (x, remove zs g.position)) o) → n ≤ g.position → n ≤ length left
       got g None b is e le = cc
       got g (Some x) b is e le = let same : left ≡ remove zs g.position = second_is (f b) left x (remove zs g.position) e in let less = shorter-remove zs g.position x is in let len = ap length same in omega arith
+
       by : (r : Option B) (found : Option Found) → option_map (λ b. (f b, left)) r ≡ taken_where zs found → IfNone r (left ≡ zs) → IfSome found (λ g. n ≤ g.position) → n ≤ length left
       by None found e same le = let len = ap length same in omega arith
       by (Some b) None e same le = cc

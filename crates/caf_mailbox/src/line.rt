@@ -8,10 +8,10 @@ ghost use Rattle.caf_mailbox.specs.Line.{arrived, numbered, at_arrived, in_line,
 ghost use Rattle.caf_mailbox.specs.Class as classes;
 ghost use Rattle.caf_mailbox.specs.Passed.{NonePass};
 
+use crate::Eligible;
 use crate::class::{Class, class_of, count_in};
 use crate::queue::{Numbered, first_awaited, first_content, first_from, is_before, put, take_at};
 use crate::search::take_eligible;
-use crate::Eligible;
 use caf_message::Envelope;
 use caf_types::Memory;
 use std::alloc::Global;
@@ -43,17 +43,16 @@ pub(crate) fn empty_line(alloc: Global) -> Line
 }
 
 /// Makes room for those of the batch that come into this list.
-pub(crate) fn make_room(
-    line: &mut Line,
-    is_urgent: bool,
-    batch: &[Envelope],
-) -> Result<(), Memory>
+pub(crate) fn make_room(line: &mut Line, is_urgent: bool, batch: &[Envelope]) -> Result<(), Memory>
     ensures room { OnOk result (HasRoom (filter (classes.comes_into is_urgent) (map plain_envelope batch.now)) line.new) }
     ensures kept { HasSameItems line.old line.new }
 {
-    line.notices.reserve(count_in(batch, is_urgent, Class::Notice))?;
-    line.responses.reserve(count_in(batch, is_urgent, Class::Response))?;
-    line.contents.reserve(count_in(batch, is_urgent, Class::Content))?;
+    line.notices
+        .reserve(count_in(batch, is_urgent, Class::Notice))?;
+    line.responses
+        .reserve(count_in(batch, is_urgent, Class::Response))?;
+    line.contents
+        .reserve(count_in(batch, is_urgent, Class::Content))?;
     Ok(())
 }
 
