@@ -21,3 +21,4 @@ pub mod RecordExamples
 pub mod RunExamples
 pub mod CloserExample
 pub mod TickExamples
+pub mod EffectLemmas

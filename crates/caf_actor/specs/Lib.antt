@@ -23,3 +23,4 @@ pub mod Run
 pub mod Merge
 pub mod Resolutions
 pub mod Carriers
+pub mod Effect

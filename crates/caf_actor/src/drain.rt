@@ -9,10 +9,13 @@ ghost use Rattle.caf_message.specs.declared.envelope.Taken.{Taken};
 ghost use Rattle.caf_actor.specs.Actor.{CachesFit};
 ghost use Rattle.caf_actor.specs.Drain.{with_batch};
 ghost use Rattle.caf_actor.specs.PlainForms.{reached};
+ghost use Rattle.caf_actor.specs.Effect as effects;
 ghost use Rattle.caf_actor.specs.Drain as definitions;
 
+use crate::handling::Effect;
 use crate::post::Posts;
 use crate::{Behavior, Snapshot};
+use caf_mailbox::Passed;
 use caf_message::{Batch, Envelope};
 use caf_types::{LATEST_STAMP, Memory, TypeTable};
 use std::alloc::Global;
@@ -28,6 +31,16 @@ pub(crate) fn stamp_due(stamp: u64, batch: &[Envelope]) -> u64
         greatest = greatest.max(envelope.stamp);
     }
     greatest + 1
+}
+
+/// Which contents are known not to be eligible, after an envelope of that effect.
+fn passed_after(effect: Effect, passed: Passed) -> Passed
+    ensures { result ≡ effects.passed_after effect passed }
+{
+    match effect {
+        Effect::Same => passed,
+        Effect::Changed => Passed::new(),
+    }
 }
 
 impl<B> Snapshot<B> {
@@ -46,7 +59,8 @@ impl<B> Snapshot<B> {
 }
 
 impl<B: Behavior> Snapshot<B> {
-    /// Handles the next envelope, again and again, until none is eligible.
+    /// Handles the next envelope, again and again, until none is eligible. The contents that the
+    /// behaviour skips are looked at once after each envelope that may change which they are.
     pub(crate) fn drain(
         &mut self,
         alloc: Global,
@@ -57,8 +71,10 @@ impl<B: Behavior> Snapshot<B> {
         requires fits { CachesFit (shape_at (seen table.now)) self.old.caches }
         ensures { OnOk result (definitions.drain B.rules (reached self.old posts.old) ≡ reached self.new posts.new) }
     {
-        while let Some(envelope) = self.take_next() {
-            self.handle(alloc, table, posts, envelope)?;
+        let mut passed = Passed::new();
+        while let Some(envelope) = self.take_next(&mut passed) {
+            let effect = self.handle(alloc, table, posts, envelope)?;
+            passed = passed_after(effect, passed);
         }
         Ok(())
     }

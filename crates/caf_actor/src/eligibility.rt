@@ -3,11 +3,12 @@ ghost use Rattle.std.specs.Prelude.{◌≡◌, IfNone};
 ghost use Rattle.std.specs.Option.{option_map};
 ghost use Rattle.caf_message.specs.Envelope.{plain_envelope};
 ghost use Rattle.caf_message.specs.declared.envelope.Plain.TheVariants as «plain»;
+ghost use Rattle.caf_mailbox.specs.Passed.{IsPassed};
 ghost use Rattle.caf_actor.specs.Eligibility.{is_wanted, next_envelope};
 ghost use Rattle.caf_actor.specs.Eligibility as eligibility;
 
 use crate::{Behavior, Snapshot, signature_of};
-use caf_mailbox::Eligible;
+use caf_mailbox::{Awaited, Eligible, Passed};
 use caf_message::{Body, Envelope, Message};
 
 /// What tells the eligible envelopes of an actor.
@@ -24,6 +25,23 @@ impl<'a, B: Behavior> Eligible for Turn<'a, B> {
     ghost use Rattle.caf_actor.specs.Eligibility.{is_eligible_when};
 
     ghost test = { λ turn. is_eligible_when B.rules turn.behavior.now turn.has_begun turn.has_quit turn.awaited };
+
+    fn awaits(&self) -> Awaited {
+        if self.has_quit {
+            return Awaited::Any;
+        }
+        if !self.has_begun {
+            return Awaited::Nothing;
+        }
+        match self.awaited {
+            Some(top) => Awaited::Only(top),
+            None => Awaited::Any,
+        }
+    }
+
+    fn takes_contents(&self) -> bool {
+        self.has_quit || (self.has_begun && self.awaited.is_none())
+    }
 
     fn eligible(&self, envelope: &mut Envelope) -> bool {
         if self.has_quit {
@@ -69,10 +87,13 @@ fn is_content_wanted<B: Behavior>(behavior: &B, message: &mut Message) -> bool
 }
 
 impl<B: Behavior> Snapshot<B> {
-    /// Takes the next envelope out of the lists; None exactly where none is eligible.
-    pub(crate) fn take_next(&mut self) -> Option<Envelope>
+    /// Takes the next envelope out of the lists; None exactly where none is eligible. The contents that
+    /// are known not to be eligible are not looked at.
+    pub(crate) fn take_next(&mut self, passed: &mut Passed) -> Option<Envelope>
+        requires passed { IsPassed (eligibility.is_eligible B.rules self.old) self.old.caches passed.old }
         ensures next { option_map (λ envelope. (plain_envelope envelope, self.new)) result ≡ next_envelope B.rules self.old }
         ensures kept { IfNone result (self.new ≡ self.old) }
+        ensures passed { IsPassed (eligibility.is_eligible B.rules self.new) self.new.caches passed.new }
     {
         let turn = Turn {
             behavior: &self.behavior,
@@ -80,6 +101,6 @@ impl<B: Behavior> Snapshot<B> {
             has_quit: self.quit.is_some(),
             awaited: self.pending.top(),
         };
-        self.caches.next(&turn)
+        self.caches.next_past(&turn, passed)
     }
 }

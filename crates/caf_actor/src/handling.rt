@@ -1,5 +1,5 @@
 //! What an actor does with one envelope that has left its list.
-ghost use Rattle.std.specs.Prelude.{◌≡◌, OnOk, IsOk, false};
+ghost use Rattle.std.specs.Prelude.{◌≡◌, OnOk, IfOk, IsOk, false};
 ghost use Rattle.caf_types.specs.Table.{shape_at};
 ghost use Rattle.caf_types.specs.TypeTable.{seen};
 ghost use Rattle.caf_message.specs.Content.{ids_in};
@@ -8,10 +8,12 @@ ghost use Rattle.caf_message.specs.Envelope.{plain_body, plain_envelope, BodyFit
 ghost use Rattle.caf_message.specs.Fits.{FitsTable};
 ghost use Rattle.caf_response.specs.declared.pending.Waiting.{Waiting};
 ghost use Rattle.caf_response.specs.Pending.{is_waiting};
-ghost use Rattle.caf_actor.specs.PlainForms.{reached};
+ghost use Rattle.caf_actor.specs.PlainForms.{plain_input, reached};
 ghost use Rattle.caf_actor.specs.Answering.{is_asked};
-ghost use Rattle.caf_actor.specs.Rules.{is_input};
+ghost use Rattle.caf_actor.specs.Rules.{MayBeGiven, InputFits, is_input};
+ghost use Rattle.caf_actor.specs.Reacting as reacting;
 ghost use Rattle.caf_actor.specs.Handling.{response_input, failure_input, TakesNoMemory};
+ghost use Rattle.caf_actor.specs.Effect.{KeepsTurn};
 ghost use Rattle.caf_actor.specs.Handling as handling;
 
 use crate::content::{has_types, passing_of};
@@ -21,6 +23,15 @@ use caf_message::{Body, Envelope, Message};
 use caf_types::{Memory, Notice, Reason, Sec, TypeTable};
 use std::alloc::Global;
 
+/// Whether an envelope may have changed which of the cached ones are eligible.
+#[derive(Clone, Copy, Debug, PartialEq, Eq)]
+pub(crate) enum Effect {
+    /// The behaviour, what it awaits, and whether the actor has begun and quit are as before.
+    Same,
+    /// They may have changed.
+    Changed,
+}
+
 impl<B: Behavior> Snapshot<B> {
     fn handle_content(
         &mut self,
@@ -29,16 +40,23 @@ impl<B: Behavior> Snapshot<B> {
         posts: &mut Posts,
         origin: Origin,
         message: Message,
-    ) -> Result<(), Memory>
+    ) -> Result<Effect, Memory>
         requires entries { HasEntries (seen table.now) B.entries }
         requires fits { FitsTable (seen table.now) message.content }
         ensures handled { OnOk result (handling.handle_content B.rules (reached self.old posts.old) origin message.content ≡ reached self.new posts.new) }
         ensures dropped { is_input (B.rules.interface self.old.behavior) (ids_in message.content) ≡ false → is_asked origin ≡ false → IsOk result }
+        ensures same { IfOk result (λ effect. KeepsTurn effect self.old self.new) }
     {
         let mut message = message;
         match passing_of(&self.behavior, &mut message) {
-            Some(passes) => self.give_content(alloc, table, posts, origin, message, passes),
-            None => self.refuse(posts, origin, Sec::UnexpectedMessage),
+            Some(passes) => {
+                self.give_content(alloc, table, posts, origin, message, passes)?;
+                Ok(Effect::Changed)
+            }
+            None => {
+                self.refuse(posts, origin, Sec::UnexpectedMessage)?;
+                Ok(Effect::Same)
+            }
         }
     }
 
@@ -50,21 +68,24 @@ impl<B: Behavior> Snapshot<B> {
         posts: &mut Posts,
         number: u64,
         message: Message,
-    ) -> Result<(), Memory>
+    ) -> Result<Effect, Memory>
         requires entries { HasEntries (seen table.now) B.entries }
         requires fits { FitsTable (seen table.now) message.content }
         ensures handled { OnOk result (handling.handle_response B.rules (reached self.old posts.old) number (λ (w : Waiting). response_input w message.content) ≡ reached self.new posts.new) }
         ensures dropped { is_waiting self.old.pending number ≡ false → IsOk result }
+        ensures same { IfOk result (λ effect. KeepsTurn effect self.old self.new) }
     {
         let mut message = message;
         match self.pending.resolve(number) {
-            None => Ok(()),
+            None => Ok(Effect::Same),
             Some(waiting) => {
                 if has_types(&mut message, waiting.expected.as_slice()) {
-                    return self.give(alloc, table, posts, Input::Response(waiting.tag, message));
+                    self.give(alloc, table, posts, Input::Response(waiting.tag, message))?;
+                    return Ok(Effect::Changed);
                 }
                 let input = Input::Failed(waiting.tag, Sec::UnexpectedResponse);
-                self.give(alloc, table, posts, input)
+                self.give(alloc, table, posts, input)?;
+                Ok(Effect::Changed)
             }
         }
     }
@@ -76,14 +97,18 @@ impl<B: Behavior> Snapshot<B> {
         posts: &mut Posts,
         number: u64,
         sec: Sec,
-    ) -> Result<(), Memory>
+    ) -> Result<Effect, Memory>
         requires entries { HasEntries (seen table.now) B.entries }
         ensures handled { OnOk result (handling.handle_response B.rules (reached self.old posts.old) number (λ (w : Waiting). failure_input w sec) ≡ reached self.new posts.new) }
         ensures dropped { is_waiting self.old.pending number ≡ false → IsOk result }
+        ensures same { IfOk result (λ effect. KeepsTurn effect self.old self.new) }
     {
         match self.pending.resolve(number) {
-            None => Ok(()),
-            Some(waiting) => self.give(alloc, table, posts, Input::Failed(waiting.tag, sec)),
+            None => Ok(Effect::Same),
+            Some(waiting) => {
+                self.give(alloc, table, posts, Input::Failed(waiting.tag, sec))?;
+                Ok(Effect::Changed)
+            }
         }
     }
 
@@ -95,21 +120,41 @@ impl<B: Behavior> Snapshot<B> {
         posts: &mut Posts,
         from: u32,
         reason: Reason,
-    ) -> Result<(), Memory>
+    ) -> Result<Effect, Memory>
         ensures handled { OnOk result (handling.handle_exit (reached self.old posts.old) from reason ≡ reached self.new posts.new) }
         ensures dropped { self.old.place ≡ 0 → IsOk result }
         ensures normal { reason ≡ Reason.Normal → IsOk result }
+        ensures same { IfOk result (λ effect. KeepsTurn effect self.old self.new) }
     {
         if self.place == 0 {
-            return Ok(());
+            return Ok(Effect::Same);
         }
         self.observers.unlink(from);
         match reason {
-            Reason::Normal => Ok(()),
-            Reason::UserShutdown => self.quit_with(alloc, posts, Reason::UserShutdown),
-            Reason::Kill => self.quit_with(alloc, posts, Reason::Kill),
-            Reason::Failed => self.quit_with(alloc, posts, Reason::Failed),
+            Reason::Normal => return Ok(Effect::Same),
+            Reason::UserShutdown => self.quit_with(alloc, posts, Reason::UserShutdown)?,
+            Reason::Kill => self.quit_with(alloc, posts, Reason::Kill)?,
+            Reason::Failed => self.quit_with(alloc, posts, Reason::Failed)?,
         }
+        Ok(Effect::Changed)
+    }
+
+    /// Gives the behaviour an input, which may change all that it skips.
+    fn tell_behavior(
+        &mut self,
+        alloc: Global,
+        table: &TypeTable,
+        posts: &mut Posts,
+        input: Input,
+    ) -> Result<Effect, Memory>
+        requires entries { HasEntries (seen table.now) B.entries }
+        requires fits { InputFits (shape_at (seen table.now)) (plain_input input) }
+        requires given { MayBeGiven B.rules self.old.behavior (plain_input input) }
+        ensures given { OnOk result (reacting.give B.rules (reached self.old posts.old) (plain_input input) ≡ reached self.new posts.new) }
+        ensures same { IfOk result (λ effect. KeepsTurn effect self.old self.new) }
+    {
+        self.give(alloc, table, posts, input)?;
+        Ok(Effect::Changed)
     }
 
     fn handle_notice(
@@ -118,39 +163,43 @@ impl<B: Behavior> Snapshot<B> {
         table: &TypeTable,
         posts: &mut Posts,
         notice: Notice,
-    ) -> Result<(), Memory>
+    ) -> Result<Effect, Memory>
         requires entries { HasEntries (seen table.now) B.entries }
         ensures handled { OnOk result (handling.handle_notice B.rules (reached self.old posts.old) notice ≡ reached self.new posts.new) }
         ensures free { TakesNoMemory self.old.observers notice → IsOk result }
+        ensures same { IfOk result (λ effect. KeepsTurn effect self.old self.new) }
     {
         match notice {
-            Notice::Start => self.give(alloc, table, posts, Input::Start),
-            Notice::Stop => self.give(alloc, table, posts, Input::Stop),
+            Notice::Start => self.tell_behavior(alloc, table, posts, Input::Start),
+            Notice::Stop => self.tell_behavior(alloc, table, posts, Input::Stop),
             Notice::Exit(from, reason) => self.handle_exit(alloc, posts, from, reason),
             Notice::Down(from, reason) => {
-                self.give(alloc, table, posts, Input::Down(from, reason))
+                self.tell_behavior(alloc, table, posts, Input::Down(from, reason))
             }
             Notice::Link(from) => {
                 self.observers.link(from)?;
-                Ok(())
+                Ok(Effect::Same)
             }
             Notice::Unlink(from) => {
                 self.observers.unlink(from);
-                Ok(())
+                Ok(Effect::Same)
             }
             Notice::Watch(from) => {
                 self.observers.watch(from)?;
-                Ok(())
+                Ok(Effect::Same)
             }
             Notice::Unwatch(from) => {
                 self.observers.unwatch(from);
-                Ok(())
+                Ok(Effect::Same)
             }
             Notice::Begin(_) => {
                 self.has_begun = true;
-                Ok(())
+                Ok(Effect::Changed)
             }
-            Notice::Tick(_) => self.handle_tick(alloc, table, posts),
+            Notice::Tick(_) => {
+                self.handle_tick(alloc, table, posts)?;
+                Ok(Effect::Changed)
+            }
         }
     }
 
@@ -161,14 +210,18 @@ impl<B: Behavior> Snapshot<B> {
         table: &TypeTable,
         posts: &mut Posts,
         envelope: Envelope,
-    ) -> Result<(), Memory>
+    ) -> Result<Effect, Memory>
         requires entries { HasEntries (seen table.now) B.entries }
         requires fits { EnvelopeFits (shape_at (seen table.now)) (plain_envelope envelope) }
-        ensures { OnOk result (handling.handle_one B.rules (reached self.old posts.old) (plain_envelope envelope) ≡ reached self.new posts.new) }
+        ensures handled { OnOk result (handling.handle_one B.rules (reached self.old posts.old) (plain_envelope envelope) ≡ reached self.new posts.new) }
+        ensures same { IfOk result (λ effect. KeepsTurn effect self.old self.new) }
     {
         let (origin, body) = Origin::split(envelope);
         match self.quit {
-            Some(reason) => self.handle_shell(posts, reason, origin, body),
+            Some(reason) => {
+                self.handle_shell(posts, reason, origin, body)?;
+                Ok(Effect::Changed)
+            }
             None => self.handle_body(alloc, table, posts, origin, body),
         }
     }
@@ -180,10 +233,11 @@ impl<B: Behavior> Snapshot<B> {
         posts: &mut Posts,
         origin: Origin,
         body: Body,
-    ) -> Result<(), Memory>
+    ) -> Result<Effect, Memory>
         requires entries { HasEntries (seen table.now) B.entries }
         requires fits { BodyFits (shape_at (seen table.now)) (plain_body body) }
-        ensures { OnOk result (handling.handle_body B.rules (reached self.old posts.old) origin (plain_body body) ≡ reached self.new posts.new) }
+        ensures handled { OnOk result (handling.handle_body B.rules (reached self.old posts.old) origin (plain_body body) ≡ reached self.new posts.new) }
+        ensures same { IfOk result (λ effect. KeepsTurn effect self.old self.new) }
     {
         match body {
             Body::System(notice) => self.handle_notice(alloc, table, posts, notice),

@@ -1,10 +1,10 @@
 -- Where some envelope is eligible, and what is left.
-use Rattle.std.proofs.Common.{◌≡◌, ◌∙◌, Bool, true, false, List, [], ◌∷◌, Option, Some, None, is_some, refl}
+use Rattle.std.proofs.Common.{◌≡◌, ◌∙◌, Bool, true, false, List, [], ◌∷◌, Option, Some, None, is_some, refl, sym, ap}
 use Rattle.std.specs.List.{list_any}
 use Rattle.std.specs.Option.{option_map}
 use Rattle.caf_message.specs.declared.envelope.Taken.{Taken}
 use Rattle.caf_message.specs.Lists.{pick, keep}
-use Rattle.caf_mailbox.specs.Caches.{CachedLists, has_eligible}
+use Rattle.caf_mailbox.specs.Caches.{CachedLists, has_eligible, next_of}
 
 pub some_keep : {A : Type 0} (x : A) (o : Option (A × List A)) → is_some (keep x o) ≡ is_some o
 some_keep x (Some p) = refl
@@ -29,3 +29,12 @@ some_urgent test lists p found = rw (← some_pick test lists.urgent, found) ref
 -- none of the urgent ones is eligible
 pub some_normal : (test : Taken → Bool) (lists : CachedLists) → pick test lists.urgent ≡ None → is_some (pick test lists.normal) ≡ has_eligible test lists
 some_normal test lists none = rw (← some_pick test lists.urgent, none) (some_pick test lists.normal)
+
+-- some envelope is taken exactly where some one is eligible
+pub some_next : (test : Taken → Bool) (lists : CachedLists) → is_some (next_of test lists) ≡ has_eligible test lists
+some_next test lists = by (pick test lists.urgent) (pick test lists.normal) refl refl
+  where
+    by : (o p : Option (Taken × List Taken)) → pick test lists.urgent ≡ o → pick test lists.normal ≡ p → is_some (next_of test lists) ≡ has_eligible test lists
+    by (Some x) p e f = rw e (some_urgent test lists x e)
+    by None (Some y) e f = let h = some_normal test lists e in rw (e, f) (sym (ap is_some f) ∙ h)
+    by None None e f = let h = some_normal test lists e in rw (e, f) (sym (ap is_some f) ∙ h)

@@ -1,6 +1,7 @@
 -- What is left when the next envelope is taken: one fewer, and none that was not there.
-use Rattle.std.proofs.Common.{◌≡◌, ℕ, suc, ◌+◌, ◌∙◌, Bool, true, false, List, [], ◌∷◌, ◌++◌, length, Option, Some, None, refl, ap, subst, arith, if◌then◌else◌}
-use Rattle.std.specs.Prelude.{filter}
+use Rattle.std.proofs.Common.{◌≡◌, ℕ, suc, ◌+◌, ◌∙◌, Bool, true, false, List, [], ◌∷◌, ◌++◌, length, Option, Some, None, refl, ap, subst, sym, arith, if◌then◌else◌}
+use Rattle.std.specs.Prelude.{◌↔◌, filter, IsNone}
+use Rattle.std.specs.Option.{option_map}
 use Rattle.std.specs.List.{AllByRecursion}
 use Rattle.caf_message.specs.declared.envelope.Taken.{Taken}
 use Rattle.caf_message.specs.Lists.{pick, keep}
@@ -114,3 +115,8 @@ no_first lists q = by lists.urgent lists.normal q
     by (e ∷ es) normal s = cc
     by [] (e ∷ es) s = cc
     by [] [] s = refl
+
+-- nothing is taken exactly where nothing is cached
+pub none_first : {B : Type 0} (f : B → Taken × CachedLists) (r : Option B) (lists : CachedLists) → option_map f r ≡ first_of lists → IsNone r ↔ (lists ≡ nothing_cached)
+none_first f None lists e = (λ none. no_first lists (sym e), λ empty. refl)
+none_first f (Some x) lists e = (λ none. (cc), λ empty. let gone : first_of lists ≡ None = ap first_of empty in cc)

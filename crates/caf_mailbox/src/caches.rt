@@ -2,38 +2,91 @@ ghost use Rattle.std.specs.Prelude.{◌≡◌, ◌↔◌, ◌+◌, length, map, 
 ghost use Rattle.std.specs.Option.{option_map};
 ghost use Rattle.caf_message.specs.Envelope.{plain_envelope};
 ghost use Rattle.caf_mailbox.specs.Caches.{nothing_cached, filed, next_of, has_eligible, first_of};
+ghost use Rattle.caf_mailbox.specs.Kept.{both};
+ghost use Rattle.caf_mailbox.specs.Line.{IsSorted, KeepsBounds};
+ghost use Rattle.caf_mailbox.specs.Passed.{IsPassed};
 
-use crate::Eligible;
-use crate::filing::{file, make_room};
-use crate::search::take_eligible;
+use crate::filing::add_batch;
+use crate::line::{Line, empty_line, take_next};
+use crate::{Awaited, Eligible, Passed};
 use caf_message::{Batch, Envelope};
 use caf_types::Memory;
 use std::alloc::Global;
-use std::collections::VecDeque;
 use std::marker::Model;
 
 /// The envelopes that an actor has taken and not yet handled: the urgent and the normal list.
 ///
 /// As in CAF (the CAF manual), messages of high priority are handled before others, and a message
-/// that is skipped stays in its place until it may be handled. Each list is a queue, so the first
-/// envelope leaves in constant time; each one that is passed over costs one test.
+/// that is skipped stays in its place until it may be handled. In each list the notices, the responses
+/// and the contents stand in queues of their own, so an actor that awaits a response passes over no
+/// content, and the first envelope leaves in constant time.
 #[derive(Debug, Drop)]
 pub struct Caches {
-    urgent: VecDeque<Envelope>,
-    normal: VecDeque<Envelope>,
+    urgent: Line,
+    normal: Line,
+    /// The next number of arrival.
+    next: u64,
+    /// How many envelopes are in both lists.
+    count: u64,
 }
 
 impl Model for Caches {
-    ghost use Rattle.std.specs.Prelude.{map};
-    ghost use Rattle.caf_message.specs.Envelope.{plain_envelope};
     ghost use Rattle.caf_mailbox.specs.Caches.{CachedLists};
 
     ghost Value = { CachedLists };
 
-    ghost view = { λ caches. record {
-      urgent = map plain_envelope caches.urgent.items;
-      normal = map plain_envelope caches.normal.items;
-    } };
+    ghost use Rattle.caf_mailbox.specs.Kept.{both, IsKept, IsCounted};
+
+    ghost view = { λ caches. both caches.urgent caches.normal };
+
+    ghost invariant = { λ caches. IsKept caches.next caches.urgent caches.normal × IsCounted caches.count caches.urgent caches.normal };
+}
+
+/// Takes every envelope.
+#[derive(Drop)]
+struct Every;
+
+impl Eligible for Every {
+    ghost use Rattle.std.specs.Prelude.{true};
+
+    ghost test = { λ every envelope. true };
+
+    fn awaits(&self) -> Awaited {
+        Awaited::Any
+    }
+
+    fn takes_contents(&self) -> bool {
+        true
+    }
+
+    fn eligible(&self, _: &mut Envelope) -> bool {
+        true
+    }
+}
+
+/// Takes out the first eligible envelope of the first list, else the first one of the second.
+fn take_either<E: Eligible>(
+    urgent: &mut Line,
+    normal: &mut Line,
+    test: &E,
+    passed: &mut Passed,
+) -> Option<Envelope>
+    requires urgent { IsSorted urgent.old }
+    requires normal { IsSorted normal.old }
+    requires passed { IsPassed (E.test test.now) (both urgent.old normal.old) passed.old }
+    ensures next { option_map (λ envelope. (plain_envelope envelope, both urgent.new normal.new)) result
+        ≡ next_of (E.test test.now) (both urgent.old normal.old) }
+    ensures kept { IfNone result (both urgent.new normal.new ≡ both urgent.old normal.old) }
+    ensures urgent { IsSorted urgent.new }
+    ensures normal { IsSorted normal.new }
+    ensures urgent_up_to { KeepsBounds urgent.old urgent.new }
+    ensures normal_up_to { KeepsBounds normal.old normal.new }
+    ensures passed { IsPassed (E.test test.now) (both urgent.new normal.new) passed.new }
+{
+    match take_next(urgent, test, &mut passed.urgent) {
+        Some(envelope) => Some(envelope),
+        None => take_next(normal, test, &mut passed.normal),
+    }
 }
 
 impl Caches {
@@ -42,8 +95,10 @@ impl Caches {
         ensures { result ≡ nothing_cached }
     {
         Caches {
-            urgent: VecDeque::new(alloc),
-            normal: VecDeque::new(alloc),
+            urgent: empty_line(alloc),
+            normal: empty_line(alloc),
+            next: 0,
+            count: 0,
         }
     }
 
@@ -55,12 +110,17 @@ impl Caches {
         ensures batch { IfErr result (λ refused. refused.0 ≡ batch) }
         ensures kept { OnErr result (self.new ≡ self.old) }
     {
-        match make_room(&mut self.urgent, &mut self.normal, batch.as_slice()) {
+        let more = batch.len();
+        // No memory holds as many as a count can't tell.
+        if more > u64::MAX - self.count {
+            return Err((batch, Memory));
+        }
+        match add_batch(&mut self.urgent, &mut self.normal, &mut self.next, batch) {
             Ok(()) => {
-                file(&mut self.urgent, &mut self.normal, batch.into_vec());
+                self.count += more;
                 Ok(())
             }
-            Err(memory) => Err((batch, memory)),
+            Err(refused) => Err(refused),
         }
     }
 
@@ -68,7 +128,7 @@ impl Caches {
     pub fn len(&self) -> u64
         ensures { result ≡ length self.now.urgent + length self.now.normal }
     {
-        self.urgent.len() as u64 + self.normal.len() as u64
+        self.count
     }
 
     /// Takes out the first eligible envelope of the urgent list, else the first eligible one of the
@@ -80,10 +140,22 @@ impl Caches {
         ensures some { is_some result ≡ has_eligible (E.test test.now) self.old }
         ensures kept { IfNone result (self.new ≡ self.old) }
     {
-        match take_eligible(&mut self.urgent, test) {
-            Some(envelope) => Some(envelope),
-            None => take_eligible(&mut self.normal, test),
-        }
+        self.next_past(test, &mut Passed::new())
+    }
+
+    /// The same, and looks at no content that is known not to be eligible: `passed` says how many at
+    /// the front of each list are, and afterwards says it for the same test.
+    pub fn next_past<E: Eligible>(&mut self, test: &E, passed: &mut Passed) -> Option<Envelope>
+        requires passed { IsPassed (E.test test.now) self.old passed.old }
+        ensures next { option_map (λ envelope. (plain_envelope envelope, self.new)) result
+            ≡ next_of (E.test test.now) self.old }
+        ensures some { is_some result ≡ has_eligible (E.test test.now) self.old }
+        ensures kept { IfNone result (self.new ≡ self.old) }
+        ensures passed { IsPassed (E.test test.now) self.new passed.new }
+    {
+        let envelope = take_either(&mut self.urgent, &mut self.normal, test, passed)?;
+        self.count -= 1;
+        Some(envelope)
     }
 
     /// Takes out the first envelope of the urgent list, else the first one of the normal list. None
@@ -93,9 +165,6 @@ impl Caches {
         ensures none { IsNone result ↔ (self.old ≡ nothing_cached) }
         ensures kept { IfNone result (self.new ≡ self.old) }
     {
-        match self.urgent.pop_front() {
-            Some(envelope) => Some(envelope),
-            None => self.normal.pop_front(),
-        }
+        self.next(&Every)
     }
 }

@@ -9,12 +9,18 @@
 #![tactic(auto)]
 
 mod caches;
+mod class;
 mod eligible;
 mod filing;
+mod late;
+mod line;
+mod passed;
+mod queue;
 mod search;
 
 pub use caches::Caches;
-pub use eligible::Eligible;
+pub use eligible::{Awaited, Eligible};
+pub use passed::Passed;
 
 #[cfg(test)]
 mod tests;

@@ -1,14 +1,18 @@
-use Rattle.std.proofs.Common.{◌≡◌, ◌≤◌, ◌+◌, count_by}
-use Rattle.std.specs.VecDeque.{deque_len, deque_capacity}
+use Rattle.std.proofs.Common.{◌≡◌, ◌<◌, ◌+◌, ◌^◌, [], ◌++◌, length, map, filter}
 use Rattle.caf_message.specs.Envelope.{plain_envelope}
 use Rattle.caf_mailbox.specs.Caches.{is_urgent, is_normal}
-use Rattle.caf_mailbox.proofs.FilingLemmas.{with_those}
+use Rattle.caf_mailbox.specs.Line.{in_line, HasRoom}
+use Rattle.caf_mailbox.specs.Kept.{IsKept}
 use Rattle.caf_mailbox.proofs.filing.file.Given as goal
 
 abbrev pub invariant-loop-envelope : goal.invariant-loop-envelope
 invariant-loop-envelope l = record {
-  urgent : with_those plain_envelope is_urgent l.urgent.items l.envelope-iterator.rest.items ≡ with_those plain_envelope is_urgent l.fn.urgent.items l.fn.batch.items;
-  normal : with_those plain_envelope is_normal l.normal.items l.envelope-iterator.rest.items ≡ with_those plain_envelope is_normal l.fn.normal.items l.fn.batch.items;
-  urgent_room : deque_len l.urgent + count_by (λ e. is_urgent (plain_envelope e)) l.envelope-iterator.rest.items ≤ deque_capacity l.urgent;
-  normal_room : deque_len l.normal + count_by (λ e. is_normal (plain_envelope e)) l.envelope-iterator.rest.items ≤ deque_capacity l.normal;
+  urgent : in_line l.urgent ++ filter is_urgent (map plain_envelope l.envelope-iterator.rest.items) ≡ in_line l.fn.urgent ++ filter is_urgent (map plain_envelope l.fn.batch.items);
+  normal : in_line l.normal ++ filter is_normal (map plain_envelope l.envelope-iterator.rest.items) ≡ in_line l.fn.normal ++ filter is_normal (map plain_envelope l.fn.batch.items);
+  urgent_room : HasRoom (filter is_urgent (map plain_envelope l.envelope-iterator.rest.items)) l.urgent;
+  normal_room : HasRoom (filter is_normal (map plain_envelope l.envelope-iterator.rest.items)) l.normal;
+  kept : IsKept l.number l.urgent l.normal;
+  urgent_late : l.urgent.late.items ≡ [];
+  normal_late : l.normal.late.items ≡ [];
+  numbers : l.number + length l.envelope-iterator.rest.items < 2 ^ 64;
 }

@@ -18,7 +18,7 @@ loop-envelope-smaller g c =
     let left = left_envelope rules (λ (e : Taken). Unit {0}) c.loop-envelope.self (plain_envelope c.in-Some.envelope, c.take_next.new.self) (sym c.in-Some.ensures.next) in
     let fewer = left.shorter in
     let less = cached_one rules (reached c.take_next.new.self c.loop-envelope.posts) (plain_envelope c.in-Some.envelope) in
-    let after = ap (λ (t : Handled g.row.B.Denot). cached t.snapshot) c.in_ok-handle.ensures in
+    let after = ap (λ (t : Handled g.row.B.Denot). cached t.snapshot) c.in_ok-effect.ensures.handled in
     omega arith
 
 pub loop-envelope-preserved : goal.loop-envelope-preserved
@@ -30,10 +30,11 @@ loop-envelope-preserved g c =
     let left = left_envelope rules (EnvelopeFits shape_of) c.loop-envelope.self p (sym c.in-Some.ensures.next) in
     let others = left.others (c.loop-envelope.invariant.fits.urgent, c.loop-envelope.invariant.fits.normal) in
     let fit = all_cached_one rules (EnvelopeFits shape_of) (with_snapshot t p.1) p.0 others in
-    let after = subst (λ (u : Handled g.row.B.Denot). AllCached (EnvelopeFits shape_of) u.snapshot.caches) c.in_ok-handle.ensures fit in
+    let after = subst (λ (u : Handled g.row.B.Denot). AllCached (EnvelopeFits shape_of) u.snapshot.caches) c.in_ok-effect.ensures.handled fit in
     record {
-      same = sym (drain_step rules t p (sym c.in-Some.ensures.next) ∙ ap (drain rules) c.in_ok-handle.ensures) ∙ c.loop-envelope.invariant.same;
+      same = sym (drain_step rules t p (sym c.in-Some.ensures.next) ∙ ap (drain rules) c.in_ok-effect.ensures.handled) ∙ c.loop-envelope.invariant.same;
       fits = record { urgent = after.0; normal = after.1 };
+      passed = ?;
     }
 
 pub handle-requires-clause-fits : goal.handle-requires-clause-fits

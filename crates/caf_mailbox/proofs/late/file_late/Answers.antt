@@ -1,8 +1,8 @@
 use Rattle.std.proofs.Common.{◌≡◌, ◌∙◌, refl, sym, ap, arith, length, not, true, false}
 use Rattle.caf_message.specs.Envelope.{plain_envelope}
 use Rattle.caf_mailbox.specs.Caches.{is_urgent, is_normal, is_urgent_priority}
-use Rattle.caf_mailbox.proofs.FilingLemmas.{put_one, leave_one, put_all, count_one, count_none}
-use Rattle.caf_mailbox.proofs.filing.file.Goals as goal
+use Rattle.caf_mailbox.proofs.LateLemmas.{put_one, leave_one, put_all, count_one, count_none}
+use Rattle.caf_mailbox.proofs.late.file_late.Goals as goal
 
 pub loop-envelope-init : goal.loop-envelope-init
 loop-envelope-init c =

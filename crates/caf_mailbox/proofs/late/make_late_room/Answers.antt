@@ -2,8 +2,8 @@ use Rattle.std.proofs.Common.{◌+◌, ◌-◌, ◌≤◌, arith, length}
 use Rattle.std.specs.VecDeque.{deque_len, deque_capacity}
 use Rattle.caf_message.specs.Envelope.{plain_envelope}
 use Rattle.caf_mailbox.specs.Caches.{is_urgent}
-use Rattle.caf_mailbox.proofs.FilingLemmas.{count_both}
-use Rattle.caf_mailbox.proofs.filing.make_room.Goals as goal
+use Rattle.caf_mailbox.proofs.LateLemmas.{count_both}
+use Rattle.caf_mailbox.proofs.late.make_late_room.Goals as goal
 
 pub returns-clause-normal_room : goal.returns-clause-normal_room
 returns-clause-normal_room c =

@@ -1,0 +1,9 @@
+use Rattle.std.proofs.Common.{◌∙◌, sym, ap}
+use Rattle.caf_mailbox.specs.Line.{arrived, all_arrived, taken_where}
+use Rattle.caf_mailbox.proofs.SearchLemmas.{removed}
+use Rattle.caf_mailbox.proofs.queue.take_at.Goals as goal
+
+pub returns-in-Some-clause-taken : goal.returns-in-Some-clause-taken
+returns-in-Some-clause-taken c =
+    removed arrived c.args.queue.now.items c.remove.new.self.items c.args.queue.now.len c.in-Some.found.position c.remove.result c.args.queue.now.ok.0 c.remove.ensures.value c.remove.ensures.items c.remove.ensures.variant
+    ∙ ap (taken_where (all_arrived c.args.queue.now.items)) (sym c.in-Some.is)
