@@ -150,13 +150,13 @@ told_on_is_no_tick r origin words = go (is_number words)
     go false = tt
 
 pub ticks_at_ticks : TicksAtTicks AnyRelay relay_rules
-ticks_at_ticks r (Content origin words) valid given no = told_on_is_no_tick r origin words
-ticks_at_ticks r Start valid given no = tt
-ticks_at_ticks r Stop valid given no = tt
-ticks_at_ticks r (Response tag words) valid given no = tt
-ticks_at_ticks r (Failed tag why) valid given no = tt
-ticks_at_ticks r (Down place why) valid given no = tt
-ticks_at_ticks r Tick valid given no = tt
+ticks_at_ticks r (Content origin words) valid given other = told_on_is_no_tick r origin words
+ticks_at_ticks r Start valid given other = tt
+ticks_at_ticks r Stop valid given other = tt
+ticks_at_ticks r (Response tag words) valid given other = tt
+ticks_at_ticks r (Failed tag why) valid given other = tt
+ticks_at_ticks r (Down place why) valid given other = tt
+ticks_at_ticks r Tick valid given other = tt
 
 pub stops_with_exits : StopsWithExits AnyRelay relay_rules
 stops_with_exits r valid = tt

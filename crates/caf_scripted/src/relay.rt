@@ -1,5 +1,5 @@
 //! A behaviour that replaces each number that it is given, and tells it on.
-ghost use Rattle.std.specs.Prelude.{◌≡◌, IfOk, OnOk};
+ghost use Rattle.std.specs.Prelude.{◌≡◌, true, IfOk, OnOk};
 ghost use Rattle.caf_message.specs.Content.{ids_in};
 ghost use Rattle.caf_actor.specs.PlainForms.{plain_answer, plain_reaction};
 ghost use Rattle.caf_scripted.specs.Relay as relay;

@@ -119,6 +119,10 @@ pub struct Played {
     pub batches: u64,
     /// Why it quit, if it did.
     pub quit: Option<Reason>,
+    /// The place where it is.
+    pub place: u32,
+    /// The stamp of its last batch, 0 before the first one.
+    pub stamp: u64,
 }
 
 /// A scripted actor and the table of the built-in types.
@@ -221,6 +225,8 @@ impl Stage {
             handled: self.actor.handled(),
             batches: self.actor.journal().len(),
             quit: self.actor.quit(),
+            place: self.actor.place(),
+            stamp: self.actor.stamp(),
         })
     }
 }

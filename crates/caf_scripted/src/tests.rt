@@ -121,6 +121,7 @@ fn batches_are_answered_one_after_the_other(rt: HostRuntime) -> Result<(), Fail>
     ];
     let played = play(rt.alloc(), echo(false, &[]), letters.as_slice())?;
     assert_eq!(rt; played.lines.as_slice(), expected.as_slice());
+    assert_eq!(rt; (played.place, played.stamp), (1, 3));
     Ok(())
 }
 
