@@ -26,6 +26,7 @@ impl<E: Entries> Model for Held<E> {
 }
 
 impl<E: Entries> Held<E> {
+    /// The envelope, whose content, where it has one, fits the entries.
     pub fn new(envelope: Envelope) -> Held<E>
         requires { EnvelopeFits (entry_shape E.entries) (plain_envelope envelope) }
         ensures { result ≡ envelope }

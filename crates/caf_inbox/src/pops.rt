@@ -21,6 +21,7 @@ pub struct Counted<E: Entries> {
 }
 
 impl<E: Entries> Counted<E> {
+    /// The pass, of which no pop found nothing yet.
     pub fn new(pass: Pass<E>) -> Counted<E>
         ensures { (result.pass ≡ pass) × (result.empties ≡ 0) }
     {
