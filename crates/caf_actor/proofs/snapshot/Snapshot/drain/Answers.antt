@@ -7,9 +7,12 @@ use Rattle.caf_actor.specs.PlainForms.{reached}
 use Rattle.caf_actor.specs.declared.snapshot.Snapshot.{Snapshot}
 use Rattle.caf_actor.specs.Snapshot.{Handled, with_snapshot, cached}
 use Rattle.caf_actor.specs.Drain.{drain}
+use Rattle.caf_mailbox.specs.Passed.{IsPassed}
 use Rattle.caf_mailbox.proofs.NextLemmas.{AllCached}
 use Rattle.caf_actor.proofs.CachedLemmas.{left_envelope, all_cached_one, cached_one}
+use Rattle.caf_actor.specs.Eligibility.{is_eligible}
 use Rattle.caf_actor.proofs.DrainLemmas.{drain_step}
+use Rattle.caf_actor.proofs.EffectLemmas.{passed_on}
 use Rattle.caf_actor.proofs.snapshot.Snapshot.drain.Goals as goal
 
 pub loop-envelope-smaller : goal.loop-envelope-smaller
@@ -34,7 +37,9 @@ loop-envelope-preserved g c =
     record {
       same = sym (drain_step rules t p (sym c.in-Some.ensures.next) ∙ ap (drain rules) c.in_ok-effect.ensures.handled) ∙ c.loop-envelope.invariant.same;
       fits = record { urgent = after.0; normal = after.1 };
-      passed = ?;
+      passed =
+          subst (IsPassed (is_eligible rules c.handle.new.self) c.handle.new.self.caches) (sym c.passed_after-passed.ensures)
+          (passed_on rules c.take_next.new.self c.handle.new.self c.in_ok-effect.effect c.take_next.new.passed c.in_ok-effect.ensures.same c.in-Some.ensures.passed);
     }
 
 pub handle-requires-clause-fits : goal.handle-requires-clause-fits
