@@ -1,5 +1,5 @@
 //! A number that an actor tells to three places, where its message has room and where it has none.
-ghost use Rattle.std.specs.Prelude.{◌≡◌, ◌<◌, IfOk, map};
+ghost use Rattle.std.specs.Prelude.{◌≡◌, ◌≢◌, ◌<◌, [], IfOk, map};
 ghost use Rattle.std.specs.List.{AllByRecursion};
 ghost use Rattle.caf_types.specs.Table.{built_in, shape_at};
 ghost use Rattle.caf_message.specs.Envelope.{plain_envelope, EnvelopeFits};
@@ -60,6 +60,7 @@ pub(crate) fn narrower(message: Message) -> Result<Message, Memory>
 /// The message as the one content of a batch.
 pub(crate) fn batch_with(alloc: Global, message: Message) -> Result<Batch, Memory>
     requires { FitsTable built_in message.content }
+    ensures filled { IfOk result (λ batch. batch ≢ []) }
     ensures fits { IfOk result (λ batch. AllByRecursion (EnvelopeFits (shape_at built_in)) (map plain_envelope batch)) }
     ensures stamps { IfOk result (λ batch. AllByRecursion (λ (e : Taken). e.stamp < 1099511627776) (map plain_envelope batch)) }
 {

@@ -1,11 +1,15 @@
 //! A relay that gets a number in a message with little room, alone or beside another reference.
-ghost use Rattle.std.specs.Prelude.{◌≡◌};
+ghost use Rattle.std.specs.Prelude.{◌≡◌, ◌≢◌, ◌<◌, [], IfOk, map};
+ghost use Rattle.std.specs.List.{AllByRecursion};
+ghost use Rattle.caf_types.specs.Table.{built_in, shape_at};
+ghost use Rattle.caf_message.specs.Envelope.{plain_envelope, EnvelopeFits};
+ghost use Rattle.caf_message.specs.declared.envelope.Taken.{Taken};
 
 use crate::Relay;
 use crate::fans::{batch_with, retained_number};
 use crate::stage::interface;
 use caf_actor::{Actor, Post};
-use caf_message::{Body, MessageFault};
+use caf_message::{Batch, Body, MessageFault};
 use caf_types::{Memory, Places, Seq, TypeTable};
 use std::alloc::Global;
 
@@ -29,14 +33,6 @@ pub(crate) fn relay(
     retains: u8,
     is_shared: bool,
 ) -> Result<Option<Relayed>, MessageFault> {
-    let table = TypeTable::new(alloc)?;
-    let relay = Relay {
-        place: 1,
-        peer: 3,
-        reserve: Places::new(alloc),
-        interface: interface(alloc, false)?,
-    };
-    let mut actor = Actor::new(alloc, 1, relay, 0)?;
     let mut message = retained_number(alloc, retains)?;
     let other = if is_shared && message.room() > 0 {
         Some(message.retain()?)
@@ -44,28 +40,57 @@ pub(crate) fn relay(
         None
     };
     let batch = batch_with(alloc, message)?;
-    let posts = actor.batch(alloc, &table, batch)?;
+    let posts = posts_of_a_relay(alloc, batch)?;
     let relayed = only_post(alloc, posts)?;
     drop(other);
     Ok(relayed)
 }
 
+/// What a new relay posts at the batch.
+fn posts_of_a_relay(alloc: Global, batch: Batch) -> Result<Seq<Post>, Memory>
+    requires filled { batch ≢ [] }
+    requires fits { AllByRecursion (EnvelopeFits (shape_at built_in)) (map plain_envelope batch) }
+    requires stamps { AllByRecursion (λ (e : Taken). e.stamp < 1099511627776) (map plain_envelope batch) }
+{
+    let table = TypeTable::new(alloc)?;
+    let relay = new_relay(alloc)?;
+    let mut actor = Actor::new(alloc, 1, relay, 0)?;
+    actor.batch(alloc, &table, batch)
+}
+
+fn new_relay(alloc: Global) -> Result<Relay, Memory>
+    ensures { IfOk result (λ relay. relay.place ≡ 1) }
+{
+    Ok(Relay {
+        place: 1,
+        peer: 3,
+        reserve: Places::new(alloc),
+        interface: interface(alloc, false)?,
+    })
+}
+
 fn only_post(alloc: Global, posts: Seq<Post>) -> Result<Option<Relayed>, Memory> {
     let mut posts = posts.into_vec();
+    let others = posts.len().saturating_sub(1);
     match posts.pop() {
-        Some(post) => match post.envelope.body {
-            Body::Content(message) => {
-                let mut message = message;
-                let words = message.words(alloc)?;
-                Ok(Some(Relayed {
-                    to: post.to,
-                    number: words.get(2).copied(),
-                    room: message.room(),
-                    others: posts.len(),
-                }))
-            }
-            Body::Failure(_) | Body::System(_) => Ok(None),
-        },
+        Some(post) => told_by(alloc, post, others),
         None => Ok(None),
+    }
+}
+
+fn told_by(alloc: Global, post: Post, others: usize) -> Result<Option<Relayed>, Memory> {
+    let to = post.to;
+    match post.envelope.body {
+        Body::Content(message) => {
+            let mut message = message;
+            let words = message.words(alloc)?;
+            Ok(Some(Relayed {
+                to,
+                number: words.get(2).copied(),
+                room: message.room(),
+                others,
+            }))
+        }
+        Body::Failure(_) | Body::System(_) => Ok(None),
     }
 }
