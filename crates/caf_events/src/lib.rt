@@ -18,6 +18,7 @@ mod load;
 mod queue;
 mod range;
 mod save;
+mod save_item;
 mod values;
 
 pub use fault::LoadFault;
@@ -29,6 +30,7 @@ pub use load::Load;
 pub use queue::EventQueue;
 pub use range::measured;
 pub use save::Save;
+pub use save_item::SaveItem;
 pub use values::{load_value, save_value};
 
 #[cfg(test)]

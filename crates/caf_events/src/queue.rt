@@ -2,12 +2,10 @@ ghost use Rattle.std.specs.Prelude.{◌≡◌, ◌∷◌, ◌++◌, [], OnOk, On
 ghost use Rattle.caf_types.specs.Shape.{tree};
 ghost use Rattle.caf_words.specs.Value.{datum};
 ghost use Rattle.caf_events.specs.Event.{events};
-ghost use Rattle.caf_events.specs.Item.{event_of};
 ghost use Rattle.caf_events.specs.Queue.{queued, QueueHas};
-ghost use Rattle.caf_events.specs.Tells.{Tells, Keeps};
 
-use crate::{Item, Load, Save, save_value};
-use caf_types::{Letters, Memory, Octets, Seq, Shape};
+use crate::{Item, Load, SaveItem, save_value};
+use caf_types::{Letters, Memory, Octets, Shape};
 use caf_words::Value;
 use std::alloc::Global;
 use std::collections::VecDeque;
@@ -48,59 +46,17 @@ impl EventQueue {
             Err(_) => Err(Memory),
         }
     }
-
-    fn tell(&mut self, item: Item) -> Result<(), Memory>
-        ensures added { OnOk result (Tells QueueHas self.old self.new (event_of item ∷ [])) }
-        ensures kept { OnErr result (Keeps QueueHas self.old self.new) }
-    {
-        self.add(item)
-    }
 }
 
-impl Save for EventQueue {
+impl SaveItem for EventQueue {
     ghost told = { QueueHas };
 
-    fn unit(&mut self) -> Result<(), Memory> {
-        self.tell(Item::Unit)
+    fn alloc(&self) -> Global {
+        self.alloc
     }
 
-    fn flag(&mut self, v: bool) -> Result<(), Memory> {
-        self.tell(Item::Flag(v))
-    }
-
-    fn unsigned(&mut self, v: u64) -> Result<(), Memory> {
-        self.tell(Item::Unsigned(v))
-    }
-
-    fn signed(&mut self, v: i64) -> Result<(), Memory> {
-        self.tell(Item::Signed(v))
-    }
-
-    fn text(&mut self, v: &str) -> Result<(), Memory> {
-        let text = Letters::of(self.alloc, v)?;
-        self.tell(Item::Text(text))
-    }
-
-    fn bytes(&mut self, v: &[u8]) -> Result<(), Memory> {
-        let bytes = Vec::from_slice(self.alloc, v)?;
-        self.tell(Item::Bytes(Seq::of_vec(bytes)))
-    }
-
-    fn place(&mut self, v: u32) -> Result<(), Memory> {
-        self.tell(Item::Place(v))
-    }
-
-    fn list(&mut self, length: u64) -> Result<(), Memory> {
-        self.tell(Item::List(length))
-    }
-
-    fn object(&mut self, fields: u64) -> Result<(), Memory> {
-        self.tell(Item::Object(fields))
-    }
-
-    fn field(&mut self, name: &str) -> Result<(), Memory> {
-        let name = Letters::of(self.alloc, name)?;
-        self.tell(Item::Field(name))
+    fn save_item(&mut self, item: Item) -> Result<(), Memory> {
+        self.add(item)
     }
 }
 

@@ -6,3 +6,4 @@ pub mod TextTellingLemmas
 pub mod TextSaverLemmas
 pub mod TextValueLemmas
 pub mod TextLoaderLemmas
+pub mod StartedLemmas

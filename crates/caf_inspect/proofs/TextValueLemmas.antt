@@ -1,33 +1,38 @@
--- The values that a saver was told are those of which texts are the forms.
-use Rattle.std.proofs.Common.{List, [], ◌∷◌, ◌++◌, subst}
+-- The values that a saver was told keep to the ranges of texts.
+use Rattle.std.proofs.Common.{◌≡◌, true, List}
 use Rattle.caf_types.specs.ShapeTree.{ShapeTree, unit, flag, unsigned, signed, text, bytes, place, list, object, Parts, no_parts, part}
-use Rattle.caf_words.specs.Datum.{Datum, Data, no_data, more}
-use Rattle.caf_text.specs.TextForm as texts
-use Rattle.caf_text.specs.TextForm.{IsValue, AreValues}
+use Rattle.caf_words.specs.Datum.{Datum, a_unit, a_flag, an_unsigned, a_signed, a_text, some_bytes, a_place, a_list, an_object, Data, no_data, more, fits, each_fits, all_fit}
+use Rattle.caf_text.specs.TextForm.{KeepsRanges, KeepRanges}
+use Rattle.caf_text.proofs.NumberLemmas.{both}
 use Rattle.caf_events.specs.Event.{Event, events, each_events, part_events}
-use Rattle.caf_events.proofs.OfShapeLemmas.{IsOf, PartsAre, AllAre}
 use Rattle.caf_events.proofs.RangeLemmas.{range_split}
 use Rattle.caf_events.specs.Range.{AreInRange}
 
-each_value : (P V : Datum → Type 0) (one : Datum → List Event) → ((d : Datum) → P d → AreInRange (one d) → V d) → (ds : Data) → AllAre P ds → AreInRange (each_events one ds) → texts.AllAre V ds
-each_value P V one g no_data h r = tt
-each_value P V one g (more d ds) h r = let p = range_split (one d) (each_events one ds) r in (g d h.0 p.0, each_value P V one g ds h.1 p.1)
+each_keeps : (f : ShapeTree) → ((d : Datum) → fits f d ≡ true → AreInRange (events f d) → KeepsRanges d) → (ds : Data) → all_fit (fits f) ds ≡ true → AreInRange (each_events (events f) ds) → KeepRanges ds
+each_keeps f one no_data h r = tt
+each_keeps f one (more d ds) h r =
+    let b = both (fits f d) (all_fit (fits f) ds) h in
+    let p = range_split (events f d) (each_events (events f) ds) r in
+    (one d b.0 p.0, each_keeps f one ds b.1 p.1)
 
 mutual
-  pub is_value : (f : ShapeTree) (d : Datum) → IsOf f d → AreInRange (events f d) → IsValue f d
-  is_value unit d h r = h
-  is_value flag d h r = h
-  is_value unsigned d h r = let q = subst (λ x. AreInRange (events unsigned x)) h.1 r in (h.0, q.0, h.1)
-  is_value signed d h r = let q = subst (λ x. AreInRange (events signed x)) h.1 r in (h.0, q.0, h.1)
-  is_value text d h r = let q = subst (λ x. AreInRange (events text x)) h.1 r in (h.0, q.0.2, h.1)
-  is_value bytes d h r = let q = subst (λ x. AreInRange (events bytes x)) h.1 r in (h.0, q.0.0, h.1)
-  is_value place d h r = h
-  is_value (list f) d h r = let q = subst (λ x. AreInRange (events (list f) x)) h.2 r in (h.0, each_value (IsOf f) (IsValue f) (events f) (is_value f) h.0 h.1 q.1, h.2)
-  is_value (object ps) d h r = let q = subst (λ x. AreInRange (events (object ps) x)) h.2 r in (h.0, are_values ps h.0 h.1 q.1, h.2)
+  pub keeps : (f : ShapeTree) (d : Datum) → fits f d ≡ true → AreInRange (events f d) → KeepsRanges d
+  keeps unit a_unit h r = tt
+  keeps flag (a_flag b) h r = tt
+  keeps unsigned (an_unsigned n) h r = r.0
+  keeps signed (a_signed z) h r = r.0
+  keeps text (a_text bs) h r = r.0.2
+  keeps bytes (some_bytes bs) h r = r.0.0
+  keeps place (a_place n) h r = tt
+  keeps (list f) (a_list ds) h r = each_keeps f (keeps f) ds h r.1
+  keeps (object ps) (an_object ds) h r = parts_keep ps ds h r.1
+  keeps _ _ h r = absurd cc
 
-  are_values : (ps : Parts) (ds : Data) → PartsAre ps ds → AreInRange (part_events ps ds) → AreValues ps ds
-  are_values no_parts ds h r = h
-  are_values (part name f ps) ds h r =
-      let q = subst (λ x. AreInRange (part_events (part name f ps) x)) h.4 r in
-      let p = range_split (events f h.0) (part_events ps h.1) q.1 in
-      (h.0, h.1, is_value f h.0 h.2 p.0, are_values ps h.1 h.3 p.1, h.4)
+  parts_keep : (ps : Parts) (ds : Data) → each_fits ps ds ≡ true → AreInRange (part_events ps ds) → KeepRanges ds
+  parts_keep no_parts no_data h r = tt
+  parts_keep no_parts (more d ds) h r = absurd cc
+  parts_keep (part name f ps) no_data h r = absurd cc
+  parts_keep (part name f ps) (more d ds) h r =
+      let b = both (fits f d) (each_fits ps ds) h in
+      let p = range_split (events f d) (part_events ps ds) r.1 in
+      (keeps f d b.0 p.0, parts_keep ps ds b.1 p.1)

@@ -11,8 +11,8 @@ ghost use Rattle.caf_json.specs.Saver.{SavesJson};
 ghost use Rattle.caf_json.specs.Stack.{json};
 
 use crate::builder::Builder;
-use caf_events::{Item, Save, measured};
-use caf_types::{Letters, Memory, Seq};
+use caf_events::{Item, SaveItem};
+use caf_types::Memory;
 use serde_json::Value as Json;
 use std::alloc::Global;
 
@@ -54,18 +54,6 @@ impl JsonSaver {
             is_broken: _,
         } = self;
         builder.finish()
-    }
-
-    /// Adds the event.
-    fn tell(&mut self, item: Item) -> Result<(), Memory>
-        requires { IsInRange (event_of item) }
-        ensures added { OnOk result (Tells SavesJson self.old self.new (event_of item ∷ [])) }
-        ensures kept { OnErr result (Keeps SavesJson self.old self.new) }
-    {
-        if self.is_broken {
-            self.mend()?;
-        }
-        self.add(item)
     }
 
     /// Builds anew what was told.
@@ -110,51 +98,17 @@ fn list(items: &mut Vec<Item>, item: Item) -> Result<(), Memory>
     }
 }
 
-impl Save for JsonSaver {
+impl SaveItem for JsonSaver {
     ghost told = { SavesJson };
 
-    fn unit(&mut self) -> Result<(), Memory> {
-        self.tell(Item::Unit)
+    fn alloc(&self) -> Global {
+        self.alloc
     }
 
-    fn flag(&mut self, v: bool) -> Result<(), Memory> {
-        self.tell(Item::Flag(v))
-    }
-
-    fn unsigned(&mut self, v: u64) -> Result<(), Memory> {
-        self.tell(Item::Unsigned(v))
-    }
-
-    fn signed(&mut self, v: i64) -> Result<(), Memory> {
-        self.tell(Item::Signed(v))
-    }
-
-    fn text(&mut self, v: &str) -> Result<(), Memory> {
-        let _ = measured(v.as_bytes());
-        let text = Letters::of(self.alloc, v)?;
-        self.tell(Item::Text(text))
-    }
-
-    fn bytes(&mut self, v: &[u8]) -> Result<(), Memory> {
-        let _ = measured(v);
-        let bytes = Vec::from_slice(self.alloc, v)?;
-        self.tell(Item::Bytes(Seq::of_vec(bytes)))
-    }
-
-    fn place(&mut self, v: u32) -> Result<(), Memory> {
-        self.tell(Item::Place(v))
-    }
-
-    fn list(&mut self, length: u64) -> Result<(), Memory> {
-        self.tell(Item::List(length))
-    }
-
-    fn object(&mut self, fields: u64) -> Result<(), Memory> {
-        self.tell(Item::Object(fields))
-    }
-
-    fn field(&mut self, name: &str) -> Result<(), Memory> {
-        let name = Letters::of(self.alloc, name)?;
-        self.tell(Item::Field(name))
+    fn save_item(&mut self, item: Item) -> Result<(), Memory> {
+        if self.is_broken {
+            self.mend()?;
+        }
+        self.add(item)
     }
 }

@@ -8,13 +8,14 @@ use Rattle.caf_types.specs.ShapeTree.{ShapeTree, unit, flag, unsigned, signed, t
 use Rattle.caf_words.specs.Datum.{Datum, a_flag, a_signed, a_text, some_bytes, a_list, an_object, Data, no_data, more}
 use Rattle.caf_words.specs.Reading.{Got}
 use Rattle.caf_words.specs.Spelling.{AreBytes}
-use Rattle.caf_text.specs.TextForm.{comma, colon, escape, is_escaped, joined, text_form, fields_text, IsValue, AreValues, AllAre}
+use Rattle.caf_text.specs.TextForm.{comma, colon, escape, is_escaped, joined, text_form, fields_text}
 use Rattle.caf_text.specs.TextReading.{literal, number, nonzero, is_digit, signed_at, unquoted, digit_value, pair_value, values, values_or_none, reading, field_at, fields_at}
 use Rattle.caf_text.specs.declared.quoted.Mark.TheVariants as marks
 use Rattle.caf_text.proofs.DigitLemmas.{digit_back, sixteen}
 use Rattle.caf_text.proofs.NumberLemmas.{NoDigit, nonzero_again}
 use Rattle.caf_text.proofs.StopLemmas.{heads}
 use Rattle.caf_text.proofs.Utf8Lemmas.{plain_escape, escaped_is}
+use Rattle.caf_text.proofs.ValueLemmas.{IsValue, AreValues, AllAre}
 
 abbrev got : {A : Type 0} → A → List ℕ → Got A
 got x rest = Ok (x, rest)

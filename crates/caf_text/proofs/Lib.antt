@@ -1,6 +1,7 @@
 pub mod LoopLemmas
 pub mod StopLemmas
 pub mod NumberLemmas
+pub mod ValueLemmas
 pub mod ListLemmas
 pub mod ReaderLemmas
 pub mod DigitLemmas

@@ -2,9 +2,10 @@
 use Rattle.std.proofs.Common.{◌≡◌, ℕ, zero, suc, ◌+◌, eqb, ◌≤◌, Bool, true, false, List, [], ◌∷◌, ◌++◌, length, length-append, Option, Some, None, Ok, Err, refl, sym, ap, subst, ◌∙◌, append_assoc, append-nil, arith}
 use Rattle.caf_words.specs.Datum.{Datum, Data, no_data, more}
 use Rattle.caf_words.specs.Reading.{Got, ◌>>=◌}
-use Rattle.caf_text.specs.TextForm.{comma, joined, AllAre}
+use Rattle.caf_text.specs.TextForm.{comma, joined}
 use Rattle.caf_text.specs.TextReading.{literal, separator, after_value, values, values_or_none}
 use Rattle.caf_text.proofs.StopLemmas.{ends, Stops, no_cons, pure_stops, literal_stops, then_stops, make_stops, choice_stops, same_stops}
+use Rattle.caf_text.proofs.ValueLemmas.{AllAre}
 
 -- ---- what stands behind a value
 

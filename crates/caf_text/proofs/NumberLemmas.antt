@@ -2,7 +2,7 @@
 use Rattle.std.proofs.Common.{◌≡◌, ℕ, ◌+◌, ◌-◌, ◌*◌, ◌/◌, ◌%◌, ◌^◌, ◌<◌, ◌≤◌, ◌&&◌, nat_le, le-leb, leb-true, Bool, true, false, List, [], ◌∷◌, ◌++◌, length, Some, None, Ok, Err, decimal, refl, sym, ap, subst, ◌∙◌, append_assoc, append-nil, arith}
 use Rattle.std.proofs.lemmas.Fmt.{decimal_digit, decimal_step, decimal_by_steps}
 use Rattle.caf_text.specs.TextReading.{is_digit, digits, nonzero, number}
-use Rattle.caf_text.proofs.StopLemmas.{Stops, heads, no_cons, choice_stops}
+use Rattle.caf_text.proofs.StopLemmas.{Stops, heads, no_cons, none_to_read, halts_first, choice_stops}
 
 pub both : (a b : Bool) → (a && b) ≡ true → (a ≡ true) × (b ≡ true)
 both true b h = (refl, h)
@@ -69,7 +69,7 @@ abbrev pub IsNonzero : ℕ → ℕ → Type 0
 IsNonzero g n = (1 ≤ n) × (n ≤ g)
 
 pub nonzero_stops : (g : ℕ) → 9 ≤ g → g < 2 ^ 64 → (cs : List ℕ) → Stops (IsNonzero g) decimal (nonzero g) cs
-nonzero_stops g nine small [] = (None, [], [], record { parts = refl; is = refl; local = λ c r s e. absurd (no_cons e); good = λ before u. (1, decimal 1, (omega arith, omega arith), refl) })
+nonzero_stops g nine small [] = none_to_read (IsNonzero g) decimal (nonzero g) refl (1, (omega arith, omega arith))
 nonzero_stops g nine small (c ∷ cs) = go (nat_le 49 c && nat_le c 57) refl
   where
     go : (b : Bool) → (nat_le 49 c && nat_le c 57) ≡ b → Stops (IsNonzero g) decimal (nonzero g) (c ∷ cs)
@@ -90,17 +90,7 @@ nonzero_stops g nine small (c ∷ cs) = go (nat_le 49 c && nat_le c 57) refl
             good = λ before u. ((p.3.least, p.3.most), ap (λ xs. xs ++ p.1) (sym text) ∙ p.3.text);
           },
         )
-    go false q = (
-      None,
-      [],
-      c ∷ cs,
-      record {
-        parts = refl;
-        is = rw q refl;
-        local = λ e r s h. subst (λ x. nonzero g (x ∷ s) ≡ Err (length (x ∷ s))) (heads h) (rw q refl);
-        good = λ before u. (1, decimal 1, (omega arith, omega arith), refl);
-      },
-    )
+    go false q = halts_first (IsNonzero g) decimal (nonzero g) c cs (λ s. rw q refl) (1, (omega arith, omega arith))
 
 pub number_stops : (g : ℕ) → 9 ≤ g → g < 2 ^ 64 → (cs : List ℕ) → Stops (λ n. n ≤ g) decimal (number g) cs
 number_stops g nine small =

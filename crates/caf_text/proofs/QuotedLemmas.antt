@@ -7,7 +7,7 @@ use Rattle.caf_types.specs.ShapeTree.{text, bytes}
 use Rattle.caf_words.specs.Datum.{a_text, some_bytes}
 use Rattle.caf_words.specs.Reading.{◌>>=◌}
 use Rattle.caf_words.specs.Spelling.{AreBytes}
-use Rattle.caf_text.specs.TextForm.{escape, is_escaped, text_form, IsValue}
+use Rattle.caf_text.specs.TextForm.{escape, is_escaped, text_form}
 use Rattle.caf_text.specs.TextReading.{move, unquoted, digit_value, pair_value, reading}
 use Rattle.caf_text.specs.declared.quoted.Mark.{Mark}
 use Rattle.caf_text.specs.declared.quoted.Mark.TheVariants as marks
@@ -15,6 +15,7 @@ use Rattle.caf_text.specs.declared.quoted.Move.TheVariants as moves
 use Rattle.caf_text.proofs.DigitLemmas.{digit_is, pair_is}
 use Rattle.caf_text.proofs.Utf8Lemmas.{AsciiFirst, front_valid, after_ascii, low_valid, plain_escape, escaped_is, unescaped}
 use Rattle.caf_text.proofs.StopLemmas.{ends, Stops, heads, no_cons, as_stops, literal_then}
+use Rattle.caf_text.proofs.ValueLemmas.{IsValue}
 
 -- ---- any content
 

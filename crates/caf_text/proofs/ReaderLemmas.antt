@@ -3,13 +3,14 @@ use Rattle.std.proofs.Common.{◌≡◌, ℕ, suc, ◌-◌, ◌^◌, ◌<◌, �
 use Rattle.caf_types.specs.ShapeTree.{ShapeTree, unit, flag, unsigned, signed, text, bytes, place, list, object, Parts, no_parts, part}
 use Rattle.caf_words.specs.Datum.{Datum, a_unit, a_flag, an_unsigned, a_signed, a_text, some_bytes, a_place, a_list, an_object, Data, no_data, more}
 use Rattle.caf_words.specs.Reading.{◌>>=◌}
-use Rattle.caf_text.specs.TextForm.{comma, colon, joined, text_form, scalar_text, fields_text, IsValue, AreValues, AllAre}
+use Rattle.caf_text.specs.TextForm.{comma, colon, joined, text_form, scalar_text, fields_text}
 use Rattle.caf_text.specs.TextReading.{literal, word, number, nonzero, values_or_none, reading, field_at, fields_at}
 use Rattle.caf_text.proofs.StopLemmas.{Stops, pure_stops, literal_stops, then_stops, make_stops, choice_stops, as_stops, literal_then}
 use Rattle.std.proofs.lemmas.Str.{IsUtf8-nil}
 use Rattle.caf_text.proofs.ListLemmas.{items_stops}
 use Rattle.caf_text.proofs.QuotedLemmas.{text_stops, bytes_stops}
 use Rattle.caf_text.proofs.NumberLemmas.{IsNonzero, nonzero_stops, number_stops}
+use Rattle.caf_text.proofs.ValueLemmas.{IsValue, AreValues, AllAre}
 
 -- ---- numbers
 

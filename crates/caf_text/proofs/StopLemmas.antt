@@ -42,40 +42,55 @@ shifted before front back cs e u = subst IsUtf8 (ap (λ xs. before ++ xs) e ∙ 
 pub pure_stops : {A : Type 0} (V : A → Type 0) (a : A) (cs : List ℕ) → V a → Stops V (λ x. []) (λ xs. Ok (a, xs)) cs
 pure_stops V a cs v = (Some a, [], cs, record { parts = refl; is = refl; local = λ c r s e. refl; good = λ before u. (v, refl) })
 
+-- ---- the first byte
+
+-- nothing is there to read
+pub none_to_read : {A : Type 0} (V : A → Type 0) (T : A → List ℕ) (read : List ℕ → Got A) → read [] ≡ Err 0 → (a : A) × V a → Stops V T read []
+none_to_read V T read e some = (None, [], [], record { parts = refl; is = e; local = λ c r s q. absurd (no_cons q); good = λ before u. (some.0, T some.0, some.1, refl) })
+
+-- no text begins with the first byte
+pub halts_first : {A : Type 0} (V : A → Type 0) (T : A → List ℕ) (read : List ℕ → Got A) (c : ℕ) (cs : List ℕ) → ((s : List ℕ) → read (c ∷ s) ≡ Err (length (c ∷ s))) → (a : A) × V a → Stops V T read (c ∷ cs)
+halts_first V T read c cs halt some = (
+  None,
+  [],
+  c ∷ cs,
+  record {
+    parts = refl;
+    is = halt cs;
+    local = λ d r s e. subst (λ y. read (y ∷ s) ≡ Err (length (y ∷ s))) (heads e) (halt s);
+    good = λ before u. (some.0, T some.0, some.1, refl);
+  },
+)
+
+-- the first byte is taken, and another reader goes on
+pub takes_first : {A : Type 0} (V : A → Type 0) (T : A → List ℕ) (rest : List ℕ → Got A) (V' : A → Type 0) (T' : A → List ℕ) (read : List ℕ → Got A) (c : ℕ)
+    → ((s : List ℕ) → read (c ∷ s) ≡ rest s) → ((o : Option A) (front : List ℕ) → Good V T o front → Good V' T' o (c ∷ front)) → (cs : List ℕ) → Stops V T rest cs → Stops V' T' read (c ∷ cs)
+takes_first V T rest V' T' read c first longer cs p = (
+  p.0,
+  c ∷ p.1,
+  p.2,
+  record {
+    parts = ap (λ ys. c ∷ ys) p.3.parts;
+    is = first cs ∙ p.3.is;
+    local = λ d r s e. first (p.1 ++ d ∷ s) ∙ p.3.local d r s e;
+    good = λ before u. longer p.0 p.1 (p.3.good (before ++ c ∷ []) (shifted before (c ∷ []) cs (c ∷ cs) refl u));
+  },
+)
+
 -- ---- literals
 
 pub literal_stops : (xs cs : List ℕ) → Stops (λ u. Unit {0}) (λ u. xs) (literal xs) cs
-literal_stops [] cs = (Some tt, [], cs, record { parts = refl; is = refl; local = λ c r s e. refl; good = λ before u. (tt, refl) })
-literal_stops (x ∷ xs) [] = (None, [], [], record { parts = refl; is = refl; local = λ c r s e. absurd (no_cons e); good = λ before u. (tt, x ∷ xs, tt, refl) })
+literal_stops [] cs = pure_stops (λ u. Unit {0}) tt cs tt
+literal_stops (x ∷ xs) [] = none_to_read (λ u. Unit {0}) (λ u. x ∷ xs) (literal (x ∷ xs)) refl (tt, tt)
 literal_stops (x ∷ xs) (c ∷ cs) = go (eqb x c) refl (literal_stops xs cs)
   where
-    longer : (o : Option (Unit {0})) (front : List ℕ) → x ≡ c → Good (λ u. Unit {0}) (λ u. xs) o front → Good (λ u. Unit {0}) (λ u. x ∷ xs) o (c ∷ front)
-    longer (Some u) front e g = (tt, ap (λ y. y ∷ front) (sym e) ∙ ap (λ ys. x ∷ ys) g.1)
-    longer None front e g = (tt, g.1, tt, ap (λ y. y ∷ (front ++ g.1)) (sym e) ∙ ap (λ ys. x ∷ ys) g.3)
+    longer : x ≡ c → (o : Option (Unit {0})) (front : List ℕ) → Good (λ u. Unit {0}) (λ u. xs) o front → Good (λ u. Unit {0}) (λ u. x ∷ xs) o (c ∷ front)
+    longer e (Some u) front g = (tt, ap (λ y. y ∷ front) (sym e) ∙ ap (λ ys. x ∷ ys) g.1)
+    longer e None front g = (tt, g.1, tt, ap (λ y. y ∷ (front ++ g.1)) (sym e) ∙ ap (λ ys. x ∷ ys) g.3)
 
     go : (b : Bool) → eqb x c ≡ b → Stops (λ u. Unit {0}) (λ u. xs) (literal xs) cs → Stops (λ u. Unit {0}) (λ u. x ∷ xs) (literal (x ∷ xs)) (c ∷ cs)
-    go true q p = (
-      p.0,
-      c ∷ p.1,
-      p.2,
-      record {
-        parts = ap (λ ys. c ∷ ys) p.3.parts;
-        is = rw q p.3.is;
-        local = λ d r s e. rw q (p.3.local d r s e);
-        good = λ before u. longer p.0 p.1 (eqb-true _ _ q) (p.3.good (before ++ c ∷ []) (shifted before (c ∷ []) cs (c ∷ cs) refl u));
-      },
-    )
-    go false q p = (
-      None,
-      [],
-      c ∷ cs,
-      record {
-        parts = refl;
-        is = rw q refl;
-        local = λ d r s e. subst (λ y. literal (x ∷ xs) (y ∷ s) ≡ Err (length (y ∷ s))) (heads e) (rw q refl);
-        good = λ before u. (tt, x ∷ xs, tt, refl);
-      },
-    )
+    go true q p = takes_first (λ u. Unit {0}) (λ u. xs) (literal xs) (λ u. Unit {0}) (λ u. x ∷ xs) (literal (x ∷ xs)) c (λ s. rw q refl) (longer (eqb-true _ _ q)) cs p
+    go false q p = halts_first (λ u. Unit {0}) (λ u. x ∷ xs) (literal (x ∷ xs)) c cs (λ s. rw q refl) (tt, tt)
 
 -- ---- one reader after another
 
@@ -176,21 +191,11 @@ module _ {A : Type 0} (k : ℕ) (one other : List ℕ → Got A) (V₁ V₂ V : 
   elsewhere c rest xs q e = subst (λ ys. choice k one other ys ≡ other ys) (sym e) (rw q refl)
 
   pub choice_stops : (cs : List ℕ) → Stops V T (choice k one other) cs
-  choice_stops [] = (None, [], [], record { parts = refl; is = refl; local = λ c r s e. absurd (no_cons e); good = λ before u. (some.0, T some.0, some.1, refl) })
+  choice_stops [] = none_to_read V T (choice k one other) refl some
   choice_stops (c ∷ cs) = go (eqb c k) refl (ones cs) (others (c ∷ cs))
     where
       go : (b : Bool) → eqb c k ≡ b → Stops V₁ T₁ one cs → Stops V₂ T₂ other (c ∷ cs) → Stops V T (choice k one other) (c ∷ cs)
-      go true q p o = (
-        p.0,
-        c ∷ p.1,
-        p.2,
-        record {
-          parts = ap (λ ys. c ∷ ys) p.3.parts;
-          is = rw q p.3.is;
-          local = λ d r s e. rw q (p.3.local d r s e);
-          good = λ before u. good_one c p.0 p.1 (eqb-true _ _ q) (p.3.good (before ++ c ∷ []) (shifted before (c ∷ []) cs (c ∷ cs) refl u));
-        },
-      )
+      go true q p o = takes_first V₁ T₁ one V T (choice k one other) c (λ s. rw q refl) (λ o front g. good_one c o front (eqb-true _ _ q) g) cs p
       go false q p o = (
         o.0,
         o.1,

@@ -4,19 +4,20 @@ use Rattle.caf_types.specs.ShapeTree.{ShapeTree}
 use Rattle.caf_words.specs.Datum.{Datum}
 use Rattle.caf_words.specs.Reading.{Got, ◌>>=◌}
 use Rattle.caf_text.specs.Front.{IsFront, IsLongestFront}
-use Rattle.caf_text.specs.TextForm.{text_form, IsValue, HasText}
+use Rattle.caf_text.specs.TextForm.{text_form, HasText}
 use Rattle.caf_text.specs.TextReading.{reading, nothing_left, untext}
 use Rattle.caf_text.proofs.AgainLemmas.{reading_again}
 use Rattle.caf_text.proofs.NumberLemmas.{NoDigit}
 use Rattle.caf_text.proofs.ReaderLemmas.{reading_stops}
 use Rattle.caf_text.proofs.StopLemmas.{ends, Good, StopsAt, no_cons}
+use Rattle.caf_text.proofs.ValueLemmas.{IsValue, is_value, is_fitting}
 
 nothing_behind : NoDigit []
 nothing_behind c r e = absurd (no_cons e)
 
 -- a text form is read whole
 read_whole : (f : ShapeTree) (d : Datum) (cs : List ℕ) → HasText f d cs → reading f cs ≡ Ok (d, [])
-read_whole f d cs h = ap (reading f) (h.1 ∙ sym (append-nil (text_form f d))) ∙ reading_again f d h.0 [] nothing_behind
+read_whole f d cs h = ap (reading f) (h.2 ∙ sym (append-nil (text_form f d))) ∙ reading_again f d (is_value f d h.0 h.1) [] nothing_behind
 
 pub read_back : (f : ShapeTree) (d : Datum) (cs : List ℕ) → HasText f d cs → untext f cs ≡ Ok d
 read_back f d cs h = ap (λ y. y >>= λ x. nothing_left x.0 x.1) (read_whole f d cs h)
@@ -34,8 +35,8 @@ no_rest (Some x) c s d e = absurd (no_cons (sym (ap taken e)))
 
 module _ (f : ShapeTree) (cs : List ℕ) (o : Option Datum) (front back : List ℕ) (p : StopsAt (IsValue f) (text_form f) (reading f) cs o front back) (u : IsUtf8 cs) where
   some_front : (o : Option Datum) → Good (IsValue f) (text_form f) o front → IsFront f front
-  some_front (Some d) g = (d, [], (g.0, append-nil front ∙ g.1))
-  some_front None g = (g.0, g.1, (g.2, g.3))
+  some_front (Some d) g = let v = is_fitting f d g.0 in (d, [], (v.0, v.1, append-nil front ∙ g.1))
+  some_front None g = let v = is_fitting f g.0 g.2 in (g.0, g.1, (v.0, v.1, g.3))
 
   front_of_cs : take (length front) cs ≡ front
   front_of_cs = ap (take (length front)) p.parts ∙ taken_front front
@@ -88,7 +89,8 @@ value_of f cs d (Some x) front (c ∷ back) p u e = absurd cc
 value_of f cs d (Some x) front [] p u e =
     let g = p.good [] u in
     let same : x ≡ d = cc in
-    subst (λ y. HasText f y cs) same (g.0, p.parts ∙ append-nil front ∙ g.1)
+    let v = is_fitting f x g.0 in
+    subst (λ y. HasText f y cs) same (v.0, v.1, p.parts ∙ append-nil front ∙ g.1)
 
 pub has_text : (f : ShapeTree) (d : Datum) (cs : List ℕ) → IsUtf8 cs → untext f cs ≡ Ok d → HasText f d cs
 has_text f d cs u e =

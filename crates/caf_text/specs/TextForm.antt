@@ -6,7 +6,7 @@ use Rattle.std.specs.Int.RustNames.{FitsSigned}
 use Rattle.std.specs.Str.{IsUtf8}
 use Rattle.hex.specs.Hex.{lower_digits, encode_lower}
 use Rattle.caf_types.specs.ShapeTree.{ShapeTree, unit, flag, unsigned, signed, text, bytes, place, list, object, Parts, no_parts, part}
-use Rattle.caf_words.specs.Datum.{Datum, a_unit, a_flag, an_unsigned, a_signed, a_text, some_bytes, a_place, a_list, an_object, Data, no_data, more}
+use Rattle.caf_words.specs.Datum.{Datum, a_unit, a_flag, an_unsigned, a_signed, a_text, some_bytes, a_place, a_list, an_object, Data, no_data, more, fits}
 use Rattle.caf_words.specs.Spelling.{AreBytes}
 
 -- ---- how a byte of a text is written between the quotes
@@ -70,29 +70,23 @@ abbrev mutual
   fields_text no_parts before ds = []
   fields_text (part name f ps) before ds = field_text before name (text_form f) (fields_text ps comma) ds
 
--- ---- which values are of a shape: numbers in their range, texts in UTF-8
+-- ---- which values have one: those of the shape that keep to these ranges
 
-abbrev pub AllAre : (Datum → Type 0) → Data → Type 0
-AllAre P no_data = Unit {0}
-AllAre P (more d ds) = P d × AllAre P ds
-
+-- numbers of 64 bits, bytes below 256, and texts in UTF-8, each list as long as it may be
 abbrev mutual
-  pub IsValue : ShapeTree → Datum → Type 0
-  IsValue unit d = d ≡ a_unit
-  IsValue flag d = (b : Bool) × (d ≡ a_flag b)
-  IsValue unsigned d = (n : ℕ) × (n < 2 ^ 64) × (d ≡ an_unsigned n)
-  IsValue signed d = (z : ℤ) × FitsSigned w64 z × (d ≡ a_signed z)
-  IsValue text d = (bs : List ℕ) × IsUtf8 bs × (d ≡ a_text bs)
-  IsValue bytes d = (bs : List ℕ) × AreBytes bs × (d ≡ some_bytes bs)
-  IsValue place d = (n : ℕ) × (n < 256) × (d ≡ a_place n)
-  IsValue (list f) d = (ds : Data) × AllAre (IsValue f) ds × (d ≡ a_list ds)
-  IsValue (object ps) d = (ds : Data) × AreValues ps ds × (d ≡ an_object ds)
+  pub KeepsRanges : Datum → Type 0
+  KeepsRanges (an_unsigned n) = n < 2 ^ 64
+  KeepsRanges (a_signed z) = FitsSigned w64 z
+  KeepsRanges (a_text bs) = IsUtf8 bs
+  KeepsRanges (some_bytes bs) = AreBytes bs
+  KeepsRanges (a_list ds) = KeepRanges ds
+  KeepsRanges (an_object ds) = KeepRanges ds
+  KeepsRanges _ = Unit {0}
 
-  -- a value for each field, in declared order
-  pub AreValues : Parts → Data → Type 0
-  AreValues no_parts ds = ds ≡ no_data
-  AreValues (part name f ps) ds = (e : Datum) × (es : Data) × IsValue f e × AreValues ps es × (ds ≡ more e es)
+  pub KeepRanges : Data → Type 0
+  KeepRanges no_data = Unit {0}
+  KeepRanges (more d ds) = KeepsRanges d × KeepRanges ds
 
--- the bytes are the text form of the value, which is one of the shape
+-- the value is of the shape, and the bytes are its text form
 abbrev pub HasText : ShapeTree → Datum → List ℕ → Type 0
-HasText f d bs = IsValue f d × (bs ≡ text_form f d)
+HasText f d bs = (fits f d ≡ true) × KeepsRanges d × (bs ≡ text_form f d)

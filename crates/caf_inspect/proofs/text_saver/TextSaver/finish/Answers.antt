@@ -4,7 +4,7 @@ use Rattle.std.proofs.lemmas.Str.{is_utf8-from_IsUtf8, IsUtf8-string_bytes}
 use Rattle.caf_inspect.specs.TextBuilder.{frames_of}
 use Rattle.caf_events.proofs.OfShapeLemmas.{is_of}
 use Rattle.caf_inspect.proofs.TextSaverLemmas.{built_whole}
-use Rattle.caf_inspect.proofs.TextValueLemmas.{is_value}
+use Rattle.caf_inspect.proofs.TextValueLemmas.{keeps}
 use Rattle.caf_inspect.proofs.text_saver.TextSaver.finish.Goals as goal
 
 pub unreachable-requires : goal.unreachable-requires
@@ -18,6 +18,7 @@ returns-clause-form c = λ f d fit saved.
 
 pub returns-clause-has : goal.returns-clause-has
 returns-clause-has c = λ f d fit saved. (
-  is_value f d (is_of f d fit) saved.range,
+  fit,
+  keeps f d fit saved.range,
   c.in-Some.ensures.1 ∙ ap (λ v. v.items) c.into_bytes.ensures.value ∙ built_whole f d (frames_of c.args.self.parts.items) (string_bytes c.args.self.text) (is_of f d fit) saved.form,
 )

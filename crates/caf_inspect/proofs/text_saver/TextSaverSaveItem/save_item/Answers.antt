@@ -3,7 +3,7 @@ use Rattle.caf_inspect.specs.TextBuilder.{frames_of}
 use Rattle.caf_inspect.specs.TextStack.{state}
 use Rattle.std.proofs.Common.{[]}
 use Rattle.caf_inspect.proofs.TextTellingLemmas.{text_told}
-use Rattle.caf_inspect.proofs.text_saver.TextSaver.tell.Goals as goal
+use Rattle.caf_inspect.proofs.text_saver.TextSaverSaveItem.save_item.Goals as goal
 
 pub returns-clause-added : goal.returns-clause-added
 returns-clause-added c =
