@@ -1,5 +1,5 @@
 -- The order of batches and of senders in them decides a record: its merge is a run, and a run has no other choice.
-use Rattle.std.proofs.Common.{◌≡◌, ◌≢◌, ℕ, zero, suc, ◌+◌, ◌==◌, ◌&&◌, Bool, true, false, if◌then◌else◌, List, [], ◌∷◌, ◌++◌, drop, map, Option, refl, ap, sym, ◌∙◌, subst, arith}
+use Rattle.std.proofs.Common.{◌≡◌, ◌≢◌, ℕ, zero, suc, ◌+◌, ◌==◌, ◌&&◌, Bool, true, false, if◌then◌else◌, List, [], ◌∷◌, ◌++◌, drop, map, refl, ap, sym, ◌∙◌, subst, arith}
 use Rattle.std.specs.Prelude.{flat_map}
 use Rattle.std.proofs.Math.Path.{fun_ext}
 use Rattle.caf_message.specs.declared.envelope.Taken.{Taken}
@@ -8,8 +8,8 @@ use Rattle.caf_actor.specs.Record.{Machine, IsPrefix, from_place, Kept, holds_no
 use Rattle.caf_actor.specs.Run.{Turn, State, opening_state, MayTake, MaySpeak, take_batch, send_notice, IsRun}
 use Rattle.caf_actor.specs.Merge.{batches_in, IsMerge, steps_of}
 use Rattle.caf_record.specs.Trace.{SenderRun, one_before, runs_of}
-use Rattle.caf_record.specs.BatchOrder.{batch_order, OrderDecides}
-use Rattle.caf_record.proofs.ListLemmas.{same_of, nil_left}
+use Rattle.caf_record.specs.BatchOrder.{batch_order}
+use Rattle.caf_record.proofs.ListLemmas.{same_of}
 use Rattle.caf_record.proofs.StandsLemmas.{HasStamps}
 use Rattle.caf_record.proofs.MergeLemmas.{merge_runs}
 use Rattle.caf_record.proofs.RunLemmas.{from_own}

@@ -1,5 +1,5 @@
 -- What the code lists and writes: entries without their batches, in order, each found again by its place and number.
-use Rattle.std.proofs.Common.{◌≡◌, ℕ, zero, suc, ◌+◌, ◌<◌, Bool, true, false, List, [], ◌∷◌, ◌++◌, length, get_or, drop, Some, refl, ap, sym, ◌∙◌, subst, arith, append_assoc}
+use Rattle.std.proofs.Common.{◌≡◌, ℕ, zero, suc, ◌+◌, ◌<◌, List, [], ◌∷◌, ◌++◌, length, get_or, drop, Some, refl, ap, sym, ◌∙◌, subst, arith, append_assoc}
 use Rattle.std.specs.Prelude.{map, slice_get, flat_map, IsSome}
 use Rattle.std.specs.List.{AllByRecursion}
 use Rattle.std.specs.List.Sorted.{IsPermutation, IsSorted}
@@ -17,7 +17,7 @@ use Rattle.caf_record.specs.RunRecord.{journal_at}
 use Rattle.caf_record.specs.InOrder.{in_order}
 use Rattle.caf_record.specs.Merged.{Entry, entries_from, merged, merge_of}
 use Rattle.caf_record.specs.Listed.{listed_of}
-use Rattle.caf_record.specs.Trace.{line_of, trace_of}
+use Rattle.caf_record.specs.Trace.{line_of}
 use Rattle.caf_record.proofs.InOrderLemmas.{sorted_in_order, in_order-map}
 use Rattle.caf_record.proofs.EntryLemmas.{turns, IsFound, merged_found}
 

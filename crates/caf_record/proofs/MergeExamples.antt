@@ -10,7 +10,7 @@ use Rattle.caf_message.specs.Envelope.{no_request}
 use Rattle.caf_actor.specs.declared.journal.TakenBatch.{TakenBatch}
 use Rattle.caf_record.specs.declared.run_record.RunRecord.{RunRecord}
 use Rattle.caf_record.specs.Merged.{merge_of, turns_of, turns_at}
-use Rattle.caf_record.specs.Trace.{SenderRun, runs_of, trace_of}
+use Rattle.caf_record.specs.Trace.{runs_of, trace_of}
 
 -- an envelope of a place, and a batch of envelopes of these places
 abbrev from : ℕ → Taken

@@ -1,6 +1,5 @@
 -- The turns of a stored record are its merge where its stamps rise, as those of a legal record do.
-use Rattle.std.proofs.Common.{◌≡◌, ◌≢◌, ℕ, zero, suc, ◌+◌, ◌<◌, ◌≤◌, ◌==◌, Bool, true, false, List, [], ◌∷◌, ◌++◌, length, get_or, refl, ap, sym, ◌∙◌, subst, arith, inl, inr}
-use Rattle.std.specs.Prelude.{map}
+use Rattle.std.proofs.Common.{◌≡◌, ℕ, ◌+◌, ◌<◌, ◌≤◌, ◌==◌, Bool, true, false, List, [], ◌∷◌, ◌++◌, refl, ap, sym, ◌∙◌, subst, arith, inl, inr}
 use Rattle.std.specs.List.{AllByRecursion}
 use Rattle.std.specs.Ordering.{nat_cmp, ordering_then, is_lt}
 use Rattle.std.specs.declared.cmp.Ordering.{Ordering}
@@ -16,7 +15,7 @@ use Rattle.caf_record.specs.declared.run_record.RunRecord.{RunRecord}
 use Rattle.caf_record.specs.RunRecord.{journal_at, record_of}
 use Rattle.caf_record.specs.InOrder.{put, in_order}
 use Rattle.caf_record.specs.Merged.{Entry, numbered, entries_from, merge_order, merged, merge_of, turns_of, turns_at, StampsRise, HasRisingStamps, AreItsMerge, LegalIsMerged}
-use Rattle.caf_record.proofs.ListLemmas.{self_equal, same_of, all_map}
+use Rattle.caf_record.proofs.ListLemmas.{same_of, all_map}
 use Rattle.caf_record.proofs.StandsLemmas.{HasStamps}
 use Rattle.caf_record.proofs.InOrderLemmas.{NotAfter, Rises, rises-in_order, all-in_order, each_at}
 use Rattle.caf_record.proofs.EntryLemmas.{turns, numbered_all, numbered_place, entries_past, named_turns, parts}

@@ -1,4 +1,4 @@
-ghost use Rattle.std.specs.Prelude.{◌≡◌, ◌==◌, [], ◌∷◌, ◌++◌, ◌≤◌, ◌^◌, ◌*◌, length, slice_get, decimal, flat_map, IfOk, OnOk, IsSome, Some, nat_lt, if◌then◌else◌};
+ghost use Rattle.std.specs.Prelude.{◌≡◌, ◌==◌, ◌++◌, ◌≤◌, ◌^◌, length, slice_get, flat_map, IfOk, OnOk, IsSome};
 ghost use Rattle.std.specs.List.{prefix_len};
 ghost use Rattle.caf_record.specs.RunRecord.{journal_at};
 ghost use Rattle.caf_record.specs.Trace.{runs_of, number_text, run_text, line_of, trace_of};

@@ -1,4 +1,4 @@
-use Rattle.std.proofs.Common.{◌≡◌, ap, ◌∙◌, map}
+use Rattle.std.proofs.Common.{ap, ◌∙◌, map}
 use Rattle.caf_record.proofs.MergedLemmas.{are_its_merge}
 use Rattle.caf_record.proofs.ListingLemmas.{listing}
 use Rattle.caf_record.proofs.merged.merge.Goals as goal

@@ -1,5 +1,4 @@
-use Rattle.std.proofs.Common.{ap, ◌∙◌, ◌++◌}
-use Rattle.caf_record.specs.declared.merged.Listed.{Listed}
+use Rattle.std.proofs.Common.{◌∙◌}
 use Rattle.caf_record.specs.Trace.{trace_of}
 use Rattle.caf_record.proofs.ListingLemmas.{is_there, line_more}
 use Rattle.caf_record.proofs.trace.trace_text.Goals as goal
