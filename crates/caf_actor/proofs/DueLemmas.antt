@@ -1,6 +1,7 @@
 -- How many requests are due.
-use Rattle.std.proofs.Common.{◌≡◌, ℕ, ◌+◌, ◌≤◌, ◌<◌, Bool, true, false, List, [], ◌∷◌, count_by, filter, not, cond, Option, Some, None, refl, sym, arith, ◌∙◌, ap, nat_le, ◌==◌}
+use Rattle.std.proofs.Common.{◌≡◌, ℕ, suc, ◌+◌, ◌≤◌, ◌<◌, Bool, true, false, List, [], ◌∷◌, count_by, filter, not, cond, Option, Some, None, refl, sym, arith, ◌∙◌, ap, nat_le, nat_lt, ◌==◌}
 use Rattle.std.specs.BTreeSet.{insert_key}
+use Rattle.std.specs.Ordering.{match_ordering}
 use Rattle.std.specs.declared.cmp.Ordering.{Ordering}
 use Rattle.std.specs.declared.cmp.Ordering.TheVariants as ordering
 use Rattle.std.proofs.lemmas.Bool.Decides.{nat_tests}

@@ -28,14 +28,15 @@ use Rattle.caf_actor.specs.PlainOutput.{PlainOutput}
 use Rattle.caf_actor.specs.PlainOutput as output
 use Rattle.caf_actor.specs.PlainReaction.{PlainAnswer}
 use Rattle.caf_actor.specs.PlainReaction as answered
+use Rattle.caf_actor.specs.Clock.{next_tick}
 use Rattle.caf_actor.specs.Rules.{Rules, MayBeGiven, is_input}
 use Rattle.caf_actor.specs.Snapshot.{Handled, with_snapshot}
-use Rattle.caf_actor.specs.Sending.{post, tell, tell_many, notify, reply, may_issue, issue, issue_within, settle_hold, send_output, send_outputs}
+use Rattle.caf_actor.specs.Sending.{post, tell, tell_many, notify, reply, may_issue, issue, issue_within, with_delayed, settle_hold, send_output, send_outputs}
 use Rattle.caf_actor.specs.Answering.{origin_of, is_asked, promised_to, refuse, answer_request, answer_tell, answer}
 use Rattle.caf_actor.specs.Quitting.{shell_notice, handle_shell, shell_all, break_holds, all_cached, notify_all, emptied, quit_with, quit_where}
 use Rattle.caf_actor.specs.Reacting.{react, give, give_content}
-use Rattle.caf_actor.specs.Ticking.{time_out, next_due, expire_for, due_count, expire_all, send_delayed, deliver_for, deliver_all, advance, hear_tick, handle_tick}
-use Rattle.caf_actor.specs.Handling.{handle_content, response_input, resolve_with, begin, leave_for, handle_exit, handle_notice, handle_body, handle_where, handle_one}
+use Rattle.caf_actor.specs.Ticking.{timeout_input, time_out, expiry, next_due, expire_for, due_count, expire_all, send_delayed, delivery, deliver_for, deliver_all, advance, hear_tick, handle_tick}
+use Rattle.caf_actor.specs.Handling.{handle_content, response_input, failure_input, resolve_with, begin, leave_for, handle_exit, handle_notice, handle_body, handle_where, handle_one}
 
 -- what each part of a reaction, of an answer and of quitting keeps
 pub record Keeps {S : Type 0} (rules : Rules S) (P : Handled S → Type 0) : Type 0 where

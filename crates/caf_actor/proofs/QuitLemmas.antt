@@ -1,5 +1,5 @@
 -- Nothing reaches the behaviour of an actor that has quit.
-use Rattle.std.proofs.Common.{◌≡◌, ℕ, zero, suc, Bool, true, false, if◌then◌else◌, [], ◌++◌, Option, Some, None, refl, sym, subst, ◌∙◌}
+use Rattle.std.proofs.Common.{◌≡◌, ◌≢◌, ℕ, zero, suc, Bool, true, false, if◌then◌else◌, List, [], ◌∷◌, ◌++◌, Option, Some, None, refl, sym, subst, ◌∙◌}
 use Rattle.caf_types.specs.declared.notice.Notice.{Notice}
 use Rattle.caf_types.specs.declared.notice.Notice.TheVariants as notice
 use Rattle.caf_types.specs.declared.reason.Reason.{Reason}
@@ -15,8 +15,8 @@ use Rattle.caf_actor.specs.Eligibility.{is_eligible, with_caches, next_envelope}
 use Rattle.caf_actor.specs.Answering.{origin_of, is_asked}
 use Rattle.caf_actor.specs.Quitting.{shell_notice, handle_shell}
 use Rattle.caf_actor.specs.Handling.{handle_where, handle_one}
-use Rattle.caf_actor.specs.Drain.{with_batch, drain_for}
-use Rattle.caf_actor.specs.Resolutions.{resolves, drain_resolves, StaysQuit, NoneAfterQuitting}
+use Rattle.caf_actor.specs.Drain.{with_batch, batch_of, drain_for}
+use Rattle.caf_actor.specs.Resolutions.{Resolution, resolves, drain_resolves, batch_resolves, StaysQuit, NoneAfterQuitting}
 use Rattle.caf_actor.proofs.DrainLemmas.{drain_keeps}
 
 module _ {S : Type 0} (rules : Rules S) (b : S) (why : Reason) where

@@ -1,15 +1,17 @@
 -- Records of three places, with no tick.
-use Rattle.std.proofs.Common.{◌≡◌, ◌≢◌, ℕ, zero, suc, List, [], ◌∷◌, length, Option, Some, None, refl, ap, arith}
+use Rattle.std.proofs.Common.{◌≡◌, ◌≢◌, ℕ, zero, suc, ◌==◌, ◌≤◌, ◌<◌, Bool, true, false, List, [], ◌∷◌, ◌++◌, length, drop, Option, Some, None, refl, ap, subst, ◌∙◌, arith, eqb-true, ne_eqb}
+use Rattle.std.specs.List.{AllByRecursion}
 use Rattle.caf_types.specs.declared.notice.Notice.TheVariants as notice
 use Rattle.caf_types.specs.declared.notice.Priority.TheVariants.{Urgent, Normal}
 use Rattle.caf_types.specs.declared.reason.Reason.TheVariants as reason
 use Rattle.caf_message.specs.declared.envelope.Taken.{Taken}
 use Rattle.caf_message.specs.declared.envelope.Plain.TheVariants as «plain»
-use Rattle.caf_message.specs.Envelope.{start_envelope, no_request}
+use Rattle.caf_message.specs.Envelope.{outside, start_envelope, no_request}
 use Rattle.caf_message.specs.Outside.{outside_envelope}
 use Rattle.caf_actor.specs.declared.journal.TakenBatch.{TakenBatch}
 use Rattle.caf_actor.specs.declared.snapshot.Snapshot.{Snapshot}
-use Rattle.caf_actor.specs.Record.{Machine, machine_of, Kept, IsLegal, handled}
+use Rattle.caf_actor.specs.PlainPost.{PlainPost}
+use Rattle.caf_actor.specs.Record.{Machine, machine_of, IsPrefix, from_place, to_place, joined, posted, AreStamped, Kept, ends, before, taken_by, sent_by, untaken, IsAtRest, IsLegal, IsComplete, handled}
 use Rattle.caf_actor.proofs.ExampleActors.{text, Echo, Conductor, Player, rules, new_player, asked, replied}
 
 -- ---- the places

@@ -1,5 +1,5 @@
 -- Each request is resolved by a value of the declared types or by an error, and what is left at rest.
-use Rattle.std.proofs.Common.{◌≡◌, ℕ, zero, suc, ◌==◌, ◌||◌, not, bytes_eq, Bool, true, false, if◌then◌else◌, List, [], ◌∷◌, count_by, Option, Some, None, is_none, refl, sym, arith}
+use Rattle.std.proofs.Common.{◌≡◌, ℕ, zero, suc, ◌==◌, ◌&&◌, ◌||◌, not, bytes_eq, Bool, true, false, if◌then◌else◌, List, [], ◌∷◌, count_by, Option, Some, None, is_none, refl, sym, arith}
 use Rattle.std.specs.List.{AllByRecursion, list_any}
 use Rattle.std.proofs.lemmas.Slice.Eq.{bytes_eq-Decides}
 use Rattle.caf_words.specs.Several.{ids_of}
@@ -19,13 +19,13 @@ use Rattle.caf_types.specs.declared.notice.Notice.{Notice}
 use Rattle.caf_types.specs.declared.notice.Notice.TheVariants as notice
 use Rattle.caf_actor.specs.Snapshot.{Handled, so_far, with_snapshot, cached}
 use Rattle.caf_actor.specs.Eligibility.{is_eligible, next_envelope}
-use Rattle.caf_actor.specs.Ticking.{time_out, next_due, due_count, advance}
+use Rattle.caf_actor.specs.Ticking.{timeout_input, time_out, next_due, due_count, advance}
 use Rattle.caf_actor.specs.Quitting.{all_cached}
 use Rattle.caf_actor.specs.Handling.{handle_one, response_input, failure_input}
 use Rattle.caf_actor.specs.Drain.{with_batch}
 use Rattle.caf_actor.specs.Record.{machine_of, IsStill, sum_below}
 use Rattle.caf_actor.specs.Run.{State, Step, Take, Speak, step, opening_state}
-use Rattle.caf_actor.specs.Resolutions.{Resolution, EndsBy, Ends, resolution_where, resolution_of, expiry_resolves, expire_resolves, notice_resolves, body_resolves, resolves_where, resolves, turn_resolves, drain_resolves}
+use Rattle.caf_actor.specs.Resolutions.{Resolution, Answered, EndsBy, Ends, resolution_where, resolution_of, expiry_resolves, expire_resolves, notice_resolves, body_resolves, resolves_where, resolves, turn_resolves, drain_resolves}
 use Rattle.caf_actor.specs.Carriers.{step_resolves, run_resolves, EndsAsDeclared, carries, carriers_to, CarriersRest}
 
 -- ---- how requests end

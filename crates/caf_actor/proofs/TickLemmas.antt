@@ -1,12 +1,18 @@
 -- The loops of a tick, one request and one message at a time.
-use Rattle.std.proofs.Common.{◌≡◌, ℕ, zero, suc, ◌≤◌, ◌<◌, Bool, true, false, List, [], ◌∷◌, length, count_by, Option, Some, None, refl, arith, ◌∙◌, nat_le}
+use Rattle.std.proofs.Common.{◌≡◌, ℕ, zero, suc, ◌+◌, ◌≤◌, ◌<◌, Bool, true, false, List, [], ◌∷◌, length, count_by, Option, Some, None, refl, arith, ◌∙◌, if◌then◌else◌, nat_le, cond}
+use Rattle.std.proofs.lemmas.Grind.{common_steps}
+use Rattle.std.proofs.lemmas.Bool.Decides.{nat_tests}
+use Rattle.caf_types.specs.declared.shape.TypeId.{TypeId}
+use Rattle.caf_response.specs.declared.pending.Mode.{Mode}
 use Rattle.caf_response.specs.declared.pending.Waiting.{Waiting}
 use Rattle.caf_response.specs.Delays.{PlainDelay, next_delay}
-use Rattle.caf_response.specs.Pending.{WaitingRequests}
+use Rattle.caf_response.specs.Pending.{WaitingRequests, issued_within, issued, forgotten, resolved, expired}
+use Rattle.caf_actor.specs.declared.snapshot.Snapshot.{Snapshot}
 use Rattle.caf_actor.specs.Clock.{due_after}
 use Rattle.caf_actor.specs.Rules.{Rules}
 use Rattle.caf_actor.specs.Snapshot.{Handled, with_snapshot}
-use Rattle.caf_actor.specs.Ticking.{timeout_input, time_out, next_due, due_count, expire_for, expire_all, send_delayed, deliver_for, deliver_all}
+use Rattle.caf_actor.specs.Sending.{issue, issue_within}
+use Rattle.caf_actor.specs.Ticking.{timeout_input, time_out, expiry, next_due, due_count, expire_for, expire_all, send_delayed, delivery, deliver_for, deliver_all}
 use Rattle.caf_actor.proofs.KeptLemmas.{Keeps, on_give}
 use Rattle.caf_actor.proofs.DueLemmas.{is_due, fewer_due, same_due_within, same_due_issued}
 

@@ -19,7 +19,7 @@ use Rattle.caf_actor.specs.Clock.{next_tick, due_after}
 use Rattle.caf_actor.specs.Rules.{Rules}
 use Rattle.caf_actor.specs.Snapshot.{opening, vacant}
 use Rattle.caf_actor.specs.Drain.{batch_of}
-use Rattle.caf_actor.proofs.ExampleActors.{text, text_types, with_text, told, noticed, notified}
+use Rattle.caf_actor.proofs.ExampleActors.{text, text_types, with_text, asked, told, answered, noticed, notified}
 
 -- ---- an actor with two requests within ticks, a delayed message and a child
 

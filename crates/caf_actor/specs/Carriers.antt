@@ -13,7 +13,7 @@ use Rattle.caf_actor.specs.Eligibility.{is_eligible}
 use Rattle.caf_actor.specs.Quitting.{all_cached}
 use Rattle.caf_actor.specs.Resolutions.{Resolution, Ends, batch_resolves, times_resolved, times_answered, given_between}
 use Rattle.caf_actor.specs.Record.{Kept, ends, IsCloser, IsComplete, machine_of, IsStill, sum_below}
-use Rattle.caf_actor.specs.Run.{State, Turn, Step, Take, Speak, step, run, IsRun, opening_state}
+use Rattle.caf_actor.specs.Run.{State, Turn, Step, Take, Speak, step, run, IsPossible, IsRun, opening_state}
 use Rattle.caf_actor.specs.Merge.{IsMerge, steps_of}
 
 -- ---- carriers of request `n` of place `a`

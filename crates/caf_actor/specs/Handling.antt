@@ -15,7 +15,7 @@ use Rattle.caf_response.specs.declared.pending.Waiting.{Waiting}
 use Rattle.caf_response.specs.Pending.{WaitingRequests, resolved}
 use Rattle.caf_observe.specs.Observers.{with_link, without_link, with_monitor, without_monitor}
 use Rattle.caf_actor.specs.declared.origin.Origin.{Origin}
-use Rattle.caf_actor.specs.PlainInput.{PlainInput, Start, Stop, Response, Failed, Down}
+use Rattle.caf_actor.specs.PlainInput.{PlainInput, Start, Stop, Content, Response, Failed, Down}
 use Rattle.caf_actor.specs.Rules.{Rules, is_input}
 use Rattle.caf_actor.specs.Snapshot.{Handled, with_snapshot}
 use Rattle.caf_actor.specs.Answering.{origin_of, refuse}

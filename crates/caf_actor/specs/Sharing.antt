@@ -1,5 +1,5 @@
 -- One message for several places, and which references to its tuple travel.
-use Rattle.std.specs.Prelude.{◌≡◌, ℕ, zero, suc, ◌-◌, List, [], ◌∷◌, ◌++◌, length, map, replicate}
+use Rattle.std.specs.Prelude.{◌≡◌, ℕ, zero, suc, ◌-◌, ◌≤◌, Bool, true, false, List, [], ◌∷◌, ◌++◌, length, map, replicate}
 use Rattle.caf_steps.specs.declared.step.Step.{Step}
 use Rattle.caf_steps.specs.declared.step.Step.TheVariants.{Retain}
 use Rattle.caf_steps.specs.declared.reference.Reference.{Reference}

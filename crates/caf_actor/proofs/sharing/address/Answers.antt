@@ -1,4 +1,4 @@
-use Rattle.std.proofs.Common.{arith, ℕ, List, length, sym, subst}
+use Rattle.std.proofs.Common.{arith, ◌≡◌, ℕ, List, length, sym, subst}
 use Rattle.std.proofs.lemmas.Grind.{common_steps}
 use Rattle.caf_steps.specs.declared.reference.Reference.{Reference}
 use Rattle.caf_actor.specs.Sharing.{IsShared}

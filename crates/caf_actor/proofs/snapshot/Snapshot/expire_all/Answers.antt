@@ -1,4 +1,4 @@
-use Rattle.std.proofs.Common.{◌≡◌, ◌∙◌, sym, ap, arith, Some}
+use Rattle.std.proofs.Common.{◌≡◌, ◌∙◌, sym, ap, arith, Option, Some}
 use Rattle.caf_response.specs.declared.pending.Waiting.{Waiting}
 use Rattle.caf_response.specs.Pending.{WaitingRequests, expired}
 use Rattle.caf_actor.specs.PlainForms.{reached}

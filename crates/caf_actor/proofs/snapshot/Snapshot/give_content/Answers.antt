@@ -1,4 +1,4 @@
-use Rattle.std.proofs.Common.{◌≡◌, ◌∙◌, ℕ, List, sym, ap, subst}
+use Rattle.std.proofs.Common.{◌≡◌, ◌∙◌, ℕ, List, Bool, true, false, sym, ap, refl, subst}
 use Rattle.std.specs.Prelude.{OnOk}
 use Rattle.caf_actor.specs.PlainForms.{plain_answer, plain_input, plain_reaction, reached}
 use Rattle.caf_actor.specs.PlainInput.{PlainInput}
@@ -6,7 +6,7 @@ use Rattle.caf_actor.specs.PlainInput as plain_in
 use Rattle.caf_actor.specs.PlainReaction.{PlainAnswer, PlainReaction}
 use Rattle.caf_actor.specs.Snapshot.{Handled, with_snapshot}
 use Rattle.caf_actor.specs.Sending.{send_outputs}
-use Rattle.caf_actor.specs.Answering.{answer, kept_content}
+use Rattle.caf_actor.specs.Answering.{is_delegation, answer, kept_content}
 use Rattle.caf_actor.specs.Quitting.{quit_where}
 use Rattle.caf_actor.specs.Reacting.{give_content, react}
 use Rattle.caf_actor.proofs.AnswerLemmas.{kept_answer, passes_as_told}
