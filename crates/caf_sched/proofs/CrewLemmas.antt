@@ -1,5 +1,5 @@
 -- What a crew keeps of its hands, seats and parts.
-use Rattle.std.proofs.Common.{◌≡◌, ℕ, zero, suc, ◌+◌, ◌<◌, List, [], ◌∷◌, ◌++◌, length, map, slice_index_or, All, Result, Ok, IfOk, refl, ap, sym, ◌∙◌, subst, append_assoc, arith}
+use Rattle.std.proofs.Common.{◌≡◌, ℕ, zero, suc, ◌+◌, ◌-◌, ◌<◌, List, [], ◌∷◌, ◌++◌, length, map, slice_index_or, All, Result, Ok, IfOk, refl, ap, sym, ◌∙◌, subst, append_assoc, arith}
 use Rattle.std.specs.List.{AllZip}
 use Rattle.std.proofs.lemmas.List.Elements.{All-append}
 use Rattle.std.proofs.lemmas.List.{map-append, length-append}
@@ -122,6 +122,6 @@ module _ {T : Type 0} where
   pub parts_back : (t : TableId) (opening : List T) (p q : ℕ) (ws back : List (Worker T)) → All (λ w. w.seat ≡ new_seat t opening) ws → AllZip Worked ws back → length ws + p ≡ all_parts → q ≡ p + parts_of back → q ≡ all_parts
   parts_back t opening p q ws back a z e f = let g = parts_all t back (came_seats t opening ws back a z) in let h = came_length ws back z in omega arith
 
--- one part and one split less, one hand more
-pub parts_more : {A : Type 0} (p p' n : ℕ) (xs : List A) (x : A) → p' + 1 ≡ p → p + length xs ≡ n → p' + length (xs ++ x ∷ []) ≡ n
-parts_more p p' n xs x e f = let g = length-append xs (x ∷ []) in omega arith
+-- one part or one split less, one hand more
+pub one_less : {A : Type 0} (p p' n : ℕ) (xs : List A) (x : A) → p' ≡ p - 1 → p ≡ n - length xs → p' ≡ n - length (xs ++ x ∷ [])
+one_less p p' n xs x e f = let g = length-append xs (x ∷ []) in omega arith

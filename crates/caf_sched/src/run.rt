@@ -93,8 +93,9 @@ fn use_hands<W: Work + Send, G: Gate, R: Threads + Wait + Sync>(
 {
     let workers = hire_all(alloc, &shared.turns, seat, hands)?;
     let back = work_all(rt, alloc, table, shared, gate, workers)?;
-    let back = gather_all(alloc, back)?;
-    join_all(alloc, &shared.turns, seat, back)
+    let done = gather_all(alloc, back)?;
+    let hands = join_all(alloc, &shared.turns, seat, done)?;
+    Ok(hands)
 }
 
 // A worker for each hand, with a seat of its own.
@@ -115,8 +116,15 @@ fn hire_all<W: Work>(
     let mut workers = Vec::new(alloc);
     let mut number = 0u32;
     for hand in hands {
-        let seat = WorkerSeat::new(turns.split(seat));
-        if workers.push(Worker { number, seat, hand }).is_err() {
+        let theirs = WorkerSeat::new(turns.split(seat));
+        if workers
+            .push(Worker {
+                number,
+                seat: theirs,
+                hand,
+            })
+            .is_err()
+        {
             return Err(Memory);
         }
         number = number.saturating_add(1);
