@@ -1,5 +1,5 @@
 -- The tickets that steps call for, and what they announce, one step more.
-use Rattle.std.proofs.Common.{◌≡◌, ℕ, ◌+◌, ◌<◌, ◌≤◌, ◌==◌, Bool, true, false, nat_lt, zero, suc, List, [], ◌∷◌, ◌++◌, length, take, slice_index, if◌then◌else◌, refl, ap, sym, ◌∙◌, append_assoc, append-nil, arith}
+use Rattle.std.proofs.Common.{◌≡◌, ℕ, ◌+◌, ◌<◌, ◌==◌, Bool, true, false, nat_lt, zero, suc, List, [], ◌∷◌, ◌++◌, length, take, slice_index, if◌then◌else◌, refl, ap, sym, ◌∙◌, append_assoc, append-nil, arith}
 use Rattle.std.proofs.lemmas.Bool.{lt-ltb}
 use Rattle.caf_turns.specs.declared.step.Step.{Step}
 use Rattle.caf_turns.specs.declared.step.Step.TheVariants.{Announce, Claim, Look, Settle, Free}

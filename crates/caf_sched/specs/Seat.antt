@@ -1,5 +1,5 @@
 -- What the seats of a crew's workers have in common.
-use Rattle.std.specs.Prelude.{◌≡◌, ℕ, List, []}
+use Rattle.std.specs.Prelude.{◌≡◌, List, []}
 use Rattle.atomic_table.specs.Seated.{TableId}
 use Rattle.caf_turns.specs.Seat.{TurnSeatSeen}
 

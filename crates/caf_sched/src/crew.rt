@@ -9,9 +9,6 @@ use caf_types::{Memory, Seq};
 use std::alloc::Global;
 use std::sync::Wait;
 
-/// How many workers a crew has at most.
-pub const MOST_WORKERS: u32 = 64;
-
 /// Makes hands.
 #[derive(Drop)]
 pub struct Crew;

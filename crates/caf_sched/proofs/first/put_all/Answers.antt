@@ -1,5 +1,4 @@
-use Rattle.std.proofs.Common.{rules, ◌≤◌, ◌<◌, length, arith}
-use Rattle.caf_turns.specs.Steps.{announced}
+use Rattle.std.proofs.Common.{rules, ◌<◌, length, arith}
 use Rattle.caf_sched.proofs.StepLemmas.{places_more}
 use Rattle.caf_sched.proofs.first.put_all.Goals as goal
 

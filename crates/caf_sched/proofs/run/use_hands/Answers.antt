@@ -1,4 +1,3 @@
-use Rattle.std.proofs.Common.{rules}
 use Rattle.caf_types.specs.TypeTable.{seen}
 use Rattle.caf_sched.specs.Worker.{Worked}
 use Rattle.caf_sched.proofs.CrewLemmas.{may_begin, zip_ok, came_seats, came_used, parts_back}

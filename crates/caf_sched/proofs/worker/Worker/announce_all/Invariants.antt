@@ -1,4 +1,4 @@
-use Rattle.std.proofs.Common.{◌≡◌, ◌++◌, ◌<◌, ◌≤◌, take}
+use Rattle.std.proofs.Common.{◌≡◌, ◌++◌, ◌<◌, take}
 use Rattle.caf_turns.specs.Limits.{most_announcements}
 use Rattle.caf_turns.specs.Steps.{announced}
 use Rattle.caf_sched.specs.Seat.{IsSameSeat}
