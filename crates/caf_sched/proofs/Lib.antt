@@ -1,0 +1,4 @@
+pub mod CrewLemmas
+pub mod HandLemmas
+pub mod StepLemmas
+pub mod TicketLemmas
