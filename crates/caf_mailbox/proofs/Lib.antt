@@ -1,3 +1,4 @@
+pub mod ResponseLemmas
 pub mod LateLemmas
 pub mod SearchLemmas
 pub mod CachesLemmas

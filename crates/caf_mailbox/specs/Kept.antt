@@ -1,7 +1,7 @@
 -- The two lists together, and what always holds of them.
 use Rattle.std.specs.Prelude.{◌≡◌, ℕ, ◌+◌, length}
 use Rattle.caf_mailbox.specs.Caches.{CachedLists}
-use Rattle.caf_mailbox.specs.Line.{in_line, IsSorted, IsUpTo}
+use Rattle.caf_mailbox.specs.Line.{in_line, IsSorted, IsUpTo, HasNoPlaces}
 use Rattle.caf_mailbox.specs.declared.line.Line.{Line}
 
 abbrev pub both : Line → Line → CachedLists
@@ -14,5 +14,9 @@ pub record IsKept (next : ℕ) (one other : Line) : Type 0 where
   pub urgent_up_to : IsUpTo next one
   pub normal_up_to : IsUpTo next other
 
-abbrev pub IsCounted : ℕ → Line → Line → Type 0
-IsCounted count urgent normal = count ≡ length (in_line urgent) + length (in_line normal)
+-- between two calls no place is free, and the envelopes are counted
+pub record IsCached (next count : ℕ) (one other : Line) : Type 0 where
+  pub kept : IsKept next one other
+  pub urgent_places : HasNoPlaces one
+  pub normal_places : HasNoPlaces other
+  pub counted : count ≡ length (in_line one) + length (in_line other)

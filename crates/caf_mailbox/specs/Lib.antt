@@ -1,4 +1,7 @@
 pub mod Awaited
+pub mod Arrived
+pub mod Responses
+pub mod Places
 pub mod Order
 pub mod Search
 pub mod Line

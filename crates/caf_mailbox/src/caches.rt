@@ -3,7 +3,7 @@ ghost use Rattle.std.specs.Option.{option_map};
 ghost use Rattle.caf_message.specs.Envelope.{plain_envelope};
 ghost use Rattle.caf_mailbox.specs.Caches.{nothing_cached, filed, next_of, has_eligible, first_of};
 ghost use Rattle.caf_mailbox.specs.Kept.{both};
-ghost use Rattle.caf_mailbox.specs.Line.{IsSorted, KeepsBounds};
+ghost use Rattle.caf_mailbox.specs.Line.{IsSorted, HasNoPlaces, KeepsBounds};
 ghost use Rattle.caf_mailbox.specs.Passed.{IsPassed};
 
 use crate::filing::add_batch;
@@ -35,11 +35,11 @@ impl Model for Caches {
 
     ghost Value = { CachedLists };
 
-    ghost use Rattle.caf_mailbox.specs.Kept.{both, IsKept, IsCounted};
+    ghost use Rattle.caf_mailbox.specs.Kept.{both, IsCached};
 
     ghost view = { λ caches. both caches.urgent caches.normal };
 
-    ghost invariant = { λ caches. IsKept caches.next caches.urgent caches.normal × IsCounted caches.count caches.urgent caches.normal };
+    ghost invariant = { λ caches. IsCached caches.next caches.count caches.urgent caches.normal };
 }
 
 /// Takes every envelope.
@@ -73,6 +73,8 @@ fn take_either<E: Eligible>(
 ) -> Option<Envelope>
     requires urgent { IsSorted urgent.old }
     requires normal { IsSorted normal.old }
+    requires urgent_places { HasNoPlaces urgent.old }
+    requires normal_places { HasNoPlaces normal.old }
     requires passed { IsPassed (E.test test.now) (both urgent.old normal.old) passed.old }
     ensures next { option_map (λ envelope. (plain_envelope envelope, both urgent.new normal.new)) result
         ≡ next_of (E.test test.now) (both urgent.old normal.old) }
@@ -81,6 +83,8 @@ fn take_either<E: Eligible>(
     ensures normal { IsSorted normal.new }
     ensures urgent_up_to { KeepsBounds urgent.old urgent.new }
     ensures normal_up_to { KeepsBounds normal.old normal.new }
+    ensures urgent_places { HasNoPlaces urgent.new }
+    ensures normal_places { HasNoPlaces normal.new }
     ensures passed { IsPassed (E.test test.now) (both urgent.new normal.new) passed.new }
 {
     match take_next(urgent, test, &mut passed.urgent) {

@@ -16,7 +16,9 @@ mod late;
 mod line;
 mod passed;
 mod queue;
+mod responses;
 mod search;
+mod tally;
 
 pub use caches::Caches;
 pub use eligible::{Awaited, Eligible};

@@ -1,17 +1,20 @@
 //! One of the two lists.
-ghost use Rattle.std.specs.Prelude.{◌≡◌, ◌+◌, ◌<◌, ◌≤◌, ◌^◌, length, ◌∷◌, [], ◌++◌, ◌&&◌, List, true, count_by, filter, map, IfNone, OnOk};
+ghost use Rattle.std.specs.Prelude.{◌≡◌, ◌+◌, ◌≤◌, length, ◌∷◌, [], ◌++◌, List, filter, IfNone, OnOk};
 ghost use Rattle.std.specs.Option.{option_map};
 ghost use Rattle.caf_message.specs.declared.envelope.Taken.{Taken};
 ghost use Rattle.caf_message.specs.Envelope.{plain_envelope, is_content};
 ghost use Rattle.caf_message.specs.Lists.{pick};
-ghost use Rattle.caf_mailbox.specs.Line.{arrived, numbered, at_arrived, in_line, IsSorted, IsUpTo, HasRoom, HasSameItems, KeepsBounds};
-ghost use Rattle.caf_mailbox.specs.Class as classes;
+ghost use Rattle.caf_mailbox.specs.Arrived.{arrived, all_arrived, at_arrived};
+ghost use Rattle.caf_mailbox.specs.Line.{numbered, in_line, IsSorted, IsUpTo, HasRoom, HasSameItems, HasNoPlaces, KeepsBounds};
+ghost use Rattle.caf_mailbox.specs.Places.{place_for, BeginsWith, IsTally};
 ghost use Rattle.caf_mailbox.specs.Passed.{NonePass};
 
 use crate::Eligible;
-use crate::class::{Class, class_of, count_in};
-use crate::queue::{Numbered, first_awaited, first_content, first_from, is_before, put, take_at};
+use crate::class::{Class, class_of};
+use crate::queue::{Numbered, first_class, first_content, first_from, number_of, put, take_at};
+use crate::responses::Responses;
 use crate::search::take_eligible;
+use crate::tally::Tally;
 use caf_message::Envelope;
 use caf_types::Memory;
 use std::alloc::Global;
@@ -22,7 +25,7 @@ use std::collections::VecDeque;
 #[derive(Debug, Drop)]
 pub(crate) struct Line {
     pub(crate) notices: VecDeque<Numbered>,
-    pub(crate) responses: VecDeque<Numbered>,
+    pub(crate) responses: Responses,
     pub(crate) contents: VecDeque<Numbered>,
     /// Those that came when no number was left, behind all others.
     pub(crate) late: VecDeque<Envelope>,
@@ -33,32 +36,31 @@ pub(crate) fn empty_line(alloc: Global) -> Line
     ensures empty { in_line result ≡ [] }
     ensures sorted { IsSorted result }
     ensures up_to { IsUpTo 0 result }
+    ensures places { HasNoPlaces result }
 {
     Line {
         notices: VecDeque::new(alloc),
-        responses: VecDeque::new(alloc),
+        responses: Responses::new(alloc),
         contents: VecDeque::new(alloc),
         late: VecDeque::new(alloc),
     }
 }
 
-/// Makes room for those of the batch that come into this list.
-pub(crate) fn make_room(line: &mut Line, is_urgent: bool, batch: &[Envelope]) -> Result<(), Memory>
-    ensures room { OnOk result (HasRoom (filter (classes.comes_into is_urgent) (map plain_envelope batch.now)) line.new) }
+/// Makes room for so many notices and contents.
+pub(crate) fn make_room(line: &mut Line, tally: Tally) -> Result<(), Memory>
+    ensures room { (es : List Taken) → IsTally es tally → OnOk result (HasRoom es line.new) }
     ensures kept { HasSameItems line.old line.new }
+    ensures responses { line.new.responses ≡ line.old.responses }
 {
-    line.notices
-        .reserve(count_in(batch, is_urgent, Class::Notice))?;
-    line.responses
-        .reserve(count_in(batch, is_urgent, Class::Response))?;
-    line.contents
-        .reserve(count_in(batch, is_urgent, Class::Content))?;
+    line.notices.reserve(tally.notices)?;
+    line.contents.reserve(tally.contents)?;
     Ok(())
 }
 
-/// Puts an envelope at the end of the list. There is room, and no late one.
+/// Puts an envelope at the end of the list. There is room, or a place for it, and no late one.
 pub(crate) fn put_in(line: &mut Line, number: u64, envelope: Envelope)
     requires room { HasRoom (plain_envelope envelope ∷ []) line.old }
+    requires place { BeginsWith (place_for number (plain_envelope envelope)) line.old.responses.room }
     requires sorted { IsSorted line.old }
     requires up_to { IsUpTo number line.old }
     requires late { line.old.late.items ≡ [] }
@@ -67,10 +69,11 @@ pub(crate) fn put_in(line: &mut Line, number: u64, envelope: Envelope)
     ensures up_to { IsUpTo (number + 1) line.new }
     ensures late { line.new.late.items ≡ [] }
     ensures room { (rest : List Taken) → HasRoom (plain_envelope envelope ∷ rest) line.old → HasRoom rest line.new }
+    ensures places { line.old.responses.room ≡ place_for number (plain_envelope envelope) ++ line.new.responses.room }
 {
     match class_of(&envelope) {
         Class::Notice => put(&mut line.notices, number, envelope),
-        Class::Response => put(&mut line.responses, number, envelope),
+        Class::Response => line.responses.put_in(number, envelope),
         Class::Content => put(&mut line.contents, number, envelope),
     }
 }
@@ -83,11 +86,13 @@ pub(crate) fn take_next<E: Eligible>(
     passed: &mut usize,
 ) -> Option<Envelope>
     requires sorted { IsSorted line.old }
+    requires places { HasNoPlaces line.old }
     requires passed { NonePass (E.test test.now) (filter is_content (in_line line.old)) passed.old }
     ensures taken { option_map (λ envelope. (plain_envelope envelope, in_line line.new)) result ≡ pick (E.test test.now) (in_line line.old) }
     ensures kept { IfNone result (in_line line.new ≡ in_line line.old) }
     ensures sorted { IsSorted line.new }
     ensures up_to { KeepsBounds line.old line.new }
+    ensures places { HasNoPlaces line.new }
     ensures passed { NonePass (E.test test.now) (filter is_content (in_line line.new)) passed.new }
 {
     match take_numbered(line, test, passed) {
@@ -99,26 +104,23 @@ pub(crate) fn take_next<E: Eligible>(
 /// Takes out the first eligible envelope among those with a number.
 fn take_numbered<E: Eligible>(line: &mut Line, test: &E, passed: &mut usize) -> Option<Numbered>
     requires sorted { IsSorted line.old }
-    requires passed { NonePass (at_arrived (E.test test.now)) (map arrived line.old.contents.items) passed.old }
+    requires places { HasNoPlaces line.old }
+    requires passed { NonePass (at_arrived (E.test test.now)) (all_arrived line.old.contents.items) passed.old }
     ensures taken { option_map (λ one. (arrived one, numbered line.new)) result ≡ pick (at_arrived (E.test test.now)) (numbered line.old) }
     ensures kept { IfNone result (numbered line.new ≡ numbered line.old) }
     ensures late { line.new.late ≡ line.old.late }
     ensures sorted { IsSorted line.new }
     ensures up_to { KeepsBounds line.old line.new }
-    ensures passed { NonePass (at_arrived (E.test test.now)) (map arrived line.new.contents.items) passed.new }
+    ensures places { HasNoPlaces line.new }
+    ensures passed { NonePass (at_arrived (E.test test.now)) (all_arrived line.new.contents.items) passed.new }
     ensures within { passed.new ≤ length line.new.contents.items }
 {
     let notice = first_from(&mut line.notices, test, 0);
-    let response = first_awaited(&line.responses, test.awaits());
+    let response = line.responses.first(test.awaits());
     let content = first_content(&mut line.contents, test, passed);
-    if is_before(&response, &content) {
-        if is_before(&notice, &response) {
-            return take_at(&mut line.notices, notice);
-        }
-        return take_at(&mut line.responses, response);
+    match first_class(number_of(&notice), response, number_of(&content)) {
+        Class::Notice => take_at(&mut line.notices, notice),
+        Class::Response => line.responses.take(response),
+        Class::Content => take_at(&mut line.contents, content),
     }
-    if is_before(&notice, &content) {
-        return take_at(&mut line.notices, notice);
-    }
-    take_at(&mut line.contents, content)
 }

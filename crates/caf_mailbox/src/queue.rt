@@ -1,16 +1,17 @@
 //! One queue of a line: the envelopes of one class.
-ghost use Rattle.std.specs.Prelude.{◌≡◌, ◌+◌, ◌<◌, ◌≤◌, ◌∷◌, [], ◌++◌, Bool, true, IfNone, IfSome, Some};
+ghost use Rattle.std.specs.Prelude.{◌≡◌, ◌+◌, ◌<◌, ◌≤◌, ◌∷◌, [], ◌++◌, true, IfNone, IfSome};
 ghost use Rattle.std.specs.List.{AllByRecursion};
 ghost use Rattle.std.specs.Option.{option_map};
 ghost use Rattle.std.specs.VecDeque.{deque_len, deque_capacity};
-ghost use Rattle.caf_message.specs.Envelope.{plain_envelope, is_response, is_content};
-ghost use Rattle.caf_message.specs.declared.envelope.Taken.{Taken};
-ghost use Rattle.caf_mailbox.specs.Awaited as awaits;
-ghost use Rattle.caf_mailbox.specs.Line.{arrived, all_arrived, at_arrived, taken_where, number_of, IsFound};
+ghost use Rattle.caf_message.specs.Envelope.{plain_envelope, is_content};
+ghost use Rattle.caf_mailbox.specs.Arrived.{arrived, all_arrived, at_arrived};
+ghost use Rattle.caf_mailbox.specs.Line.{taken_where, IsFound};
+ghost use Rattle.caf_mailbox.specs.Line as line;
 ghost use Rattle.caf_mailbox.specs.Order as order;
 ghost use Rattle.caf_mailbox.specs.Passed.{NonePass};
 
-use crate::{Awaited, Eligible};
+use crate::Eligible;
+use crate::class::Class;
 use caf_message::Envelope;
 use std::collections::VecDeque;
 
@@ -35,7 +36,7 @@ pub(crate) fn put(queue: &mut VecDeque<Numbered>, number: u64, envelope: Envelop
     ensures len { deque_len queue.new ≡ deque_len queue.old + 1 }
     ensures capacity { deque_capacity queue.new ≡ deque_capacity queue.old }
 {
-    let _ = queue.push_back(Numbered { number, envelope });
+    queue.push_back_reserved(Numbered { number, envelope });
 }
 
 /// The first eligible one. Those before `from` are known not to be eligible.
@@ -64,33 +65,6 @@ pub(crate) fn first_from<E: Eligible>(
         }
     }
     None
-}
-
-/// The first response that may be handled.
-pub(crate) fn first_awaited(queue: &VecDeque<Numbered>, awaited: Awaited) -> Option<Found>
-    ensures { (test : Taken → Bool) → AllByRecursion (λ z. test z.1 ≡ awaits.is_awaited awaited z.1.mid.number) (all_arrived queue.now.items)
-        → IsFound test (all_arrived queue.now.items) result }
-{
-    for i in 0..queue.len() {
-        let one = &queue[i];
-        if is_awaited(awaited, one.envelope.mid.number) {
-            return Some(Found {
-                position: i,
-                number: one.number,
-            });
-        }
-    }
-    None
-}
-
-fn is_awaited(awaited: Awaited, number: u64) -> bool
-    ensures { result ≡ awaits.is_awaited awaited number }
-{
-    match awaited {
-        Awaited::Any => true,
-        Awaited::Only(only) => number == only,
-        Awaited::Nothing => false,
-    }
 }
 
 /// The first eligible content. `passed` of them are known not to be eligible, and more afterwards.
@@ -130,12 +104,43 @@ pub(crate) fn take_at(queue: &mut VecDeque<Numbered>, found: Option<Found>) -> O
     }
 }
 
+/// The number of arrival of the one that was found, if one was.
+pub(crate) fn number_of(found: &Option<Found>) -> Option<u64>
+    ensures { result ≡ line.number_of found.now }
+{
+    match found {
+        Some(found) => Some(found.number),
+        None => None,
+    }
+}
+
+/// The class of the one that comes first, by the numbers of arrival of the first ones of each class.
+/// Each may be missing.
+pub(crate) fn first_class(
+    notice: Option<u64>,
+    response: Option<u64>,
+    content: Option<u64>,
+) -> Class
+    ensures { result ≡ line.first_class notice response content }
+{
+    if is_before(response, content) {
+        if is_before(notice, response) {
+            return Class::Notice;
+        }
+        return Class::Response;
+    }
+    if is_before(notice, content) {
+        return Class::Notice;
+    }
+    Class::Content
+}
+
 /// Whether the first one comes before the second one. Each may be missing.
-pub(crate) fn is_before(first: &Option<Found>, second: &Option<Found>) -> bool
-    ensures { result ≡ order.is_before (number_of first.now) (number_of second.now) }
+fn is_before(first: Option<u64>, second: Option<u64>) -> bool
+    ensures { result ≡ order.is_before first second }
 {
     match (first, second) {
-        (Some(first), Some(second)) => first.number <= second.number,
+        (Some(first), Some(second)) => first <= second,
         (Some(_), None) => true,
         (None, _) => false,
     }
