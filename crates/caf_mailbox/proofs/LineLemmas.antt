@@ -11,7 +11,10 @@ use Rattle.caf_message.specs.Lists.{pick, keep}
 use Rattle.caf_mailbox.specs.Search.{taken_at}
 use Rattle.caf_mailbox.specs.Order.{put, woven, IsOrdered, is_before, least}
 use Rattle.caf_mailbox.specs.Passed.{NonePass}
-use Rattle.caf_mailbox.specs.Line.{Arrived, all_arrived, numbered, without_numbers, in_line, at_arrived, taken_where, number_of, number_taken, IsQueue, IsSorted, IsFound}
+use Rattle.caf_mailbox.specs.Arrived.{Arrived, all_arrived, without_numbers, at_arrived, number_taken}
+use Rattle.caf_mailbox.specs.Line.{numbered, in_line, taken_where, number_of, first_class, IsQueue, IsSorted, IsFound}
+use Rattle.caf_mailbox.specs.declared.class.Class.{Class}
+use Rattle.caf_mailbox.specs.declared.class.Class.TheVariants as classes
 use Rattle.caf_mailbox.specs.declared.line.Line.{Line}
 use Rattle.caf_mailbox.specs.declared.queue.Found.{Found}
 use Rattle.caf_message.proofs.ListLemmas.{pick_none}
@@ -148,8 +151,8 @@ pub contents-line : (l : Line) → IsSorted l → filter is_content (in_line l) 
 contents-line l sorted =
     filter-parts is_content (without_numbers (numbered l)) (map plain_envelope l.late.items)
     ∙ ap (λ es. es ++ filter is_content (map plain_envelope l.late.items))
-    (content-woven (all_arrived l.notices.items) (woven (all_arrived l.responses.items) (all_arrived l.contents.items)) (others is_system notice_no_content _ sorted.notices.class)
-    ∙ content-woven (all_arrived l.responses.items) (all_arrived l.contents.items) (others is_response response_no_content _ sorted.responses.class)
+    (content-woven (all_arrived l.notices.items) (woven l.responses.here (all_arrived l.contents.items)) (others is_system notice_no_content _ sorted.notices.class)
+    ∙ content-woven l.responses.here (all_arrived l.contents.items) (others is_response response_no_content _ sorted.responses.class)
     ∙ content-all (all_arrived l.contents.items) sorted.contents.class)
 
 -- ---- how many at the front do not pass
@@ -283,7 +286,7 @@ module _ {B : Type 0} (f : B → Arrived) (test : Arrived → Bool) (zs left : L
 
 -- ---- the first one of three queues
 
-module _ (test : Taken → Bool) (ns rs cs : List Arrived) (one : IsOrdered ns) (two : IsOrdered rs) (three : IsOrdered cs) (n r c : Option Found) (fn : IsFound test ns n) (fr : IsFound test rs r) (fc : IsFound test cs c) where
+module _ (test : Taken → Bool) (ns rs cs : List Arrived) (one : IsOrdered ns) (two : IsOrdered rs) (three : IsOrdered cs) (n : Option Found) (r : Option ℕ) (c : Option Found) (fn : IsFound test ns n) (fr : r ≡ number_taken (pick (at_arrived test) rs)) (fc : IsFound test cs c) where
   abbrev t : Arrived → Bool
   t = at_arrived test
 
@@ -293,32 +296,109 @@ module _ (test : Taken → Bool) (ns rs cs : List Arrived) (one : IsOrdered ns) 
   all_picked : pick t (woven ns (woven rs cs)) ≡ earlier t ns (woven rs cs) (pick t ns) (pick t (woven rs cs))
   all_picked = pick-woven t ns (woven rs cs) one (ordered-woven rs cs three)
 
-  least_number : number_taken (pick t (woven rs cs)) ≡ least (number_of r) (number_of c)
+  least_number : number_taken (pick t (woven rs cs)) ≡ least r (number_of c)
   least_number =
       ap number_taken both_picked ∙ number-earlier t rs cs (pick t rs) (pick t cs)
-      ∙ ap (λ a. least a (number_taken (pick t cs))) (sym fr.number) ∙ ap (least (number_of r)) (sym fc.number)
+      ∙ ap (λ a. least a (number_taken (pick t cs))) (sym fr) ∙ ap (least r) (sym fc.number)
 
-  is_first : (b : Bool) → is_before (number_of n) (least (number_of r) (number_of c)) ≡ b → is_before (number_taken (pick t ns)) (number_taken (pick t (woven rs cs))) ≡ b
+  is_first : (b : Bool) → is_before (number_of n) (least r (number_of c)) ≡ b → is_before (number_taken (pick t ns)) (number_taken (pick t (woven rs cs))) ≡ b
   is_first b e = ap (λ a. is_before a (number_taken (pick t (woven rs cs)))) (sym fn.number) ∙ ap (is_before (number_of n)) least_number ∙ e
 
-  is_second : (b : Bool) → is_before (number_of r) (number_of c) ≡ b → is_before (number_taken (pick t rs)) (number_taken (pick t cs)) ≡ b
-  is_second b e = ap (λ a. is_before a (number_taken (pick t cs))) (sym fr.number) ∙ ap (is_before (number_of r)) (sym fc.number) ∙ e
+  is_second : (b : Bool) → is_before r (number_of c) ≡ b → is_before (number_taken (pick t rs)) (number_taken (pick t cs)) ≡ b
+  is_second b e = ap (λ a. is_before a (number_taken (pick t cs))) (sym fr) ∙ ap (is_before r) (sym fc.number) ∙ e
 
   -- after the search, which keeps the queues
   module _ {B : Type 0} (f : B → Arrived) (res : Option B) (left ns' cs' : List Arrived) (same_ns : ns' ≡ ns) (same_cs : cs' ≡ cs) where
-    pub notice_taken : is_before (number_of n) (least (number_of r) (number_of c)) ≡ true → option_map (λ b. (f b, left)) res ≡ taken_where ns' n
+    pub notice_taken : is_before (number_of n) (least r (number_of c)) ≡ true → option_map (λ b. (f b, left)) res ≡ taken_where ns' n
         → option_map (λ b. (f b, woven left (woven rs cs'))) res ≡ pick t (woven ns (woven rs cs))
     notice_taken e taken =
         rw same_cs (first_side t f ns (woven rs cs) (pick t ns) (pick t (woven rs cs)) res left (is_first true e) (taken ∙ ap (λ zs. taken_where zs n) same_ns ∙ fn.place) ∙ sym all_picked)
 
-    pub response_taken : is_before (number_of r) (number_of c) ≡ true → is_before (number_of n) (least (number_of r) (number_of c)) ≡ false → option_map (λ b. (f b, left)) res ≡ taken_where rs r
+    pub response_taken : is_before r (number_of c) ≡ true → is_before (number_of n) (least r (number_of c)) ≡ false → option_map (λ b. (f b, left)) res ≡ pick t rs
         → option_map (λ b. (f b, woven ns' (woven left cs'))) res ≡ pick t (woven ns (woven rs cs))
     response_taken e e' taken =
         rw (same_ns, same_cs) (second_side t f ns (woven rs cs) (pick t ns) (pick t (woven rs cs)) res (woven left cs) (is_first false e')
-        (first_side t f rs cs (pick t rs) (pick t cs) res left (is_second true e) (taken ∙ fr.place) ∙ sym both_picked) ∙ sym all_picked)
+        (first_side t f rs cs (pick t rs) (pick t cs) res left (is_second true e) taken ∙ sym both_picked) ∙ sym all_picked)
 
-    pub content_taken : is_before (number_of r) (number_of c) ≡ false → is_before (number_of n) (least (number_of r) (number_of c)) ≡ false → option_map (λ b. (f b, left)) res ≡ taken_where cs' c
+    pub content_taken : is_before r (number_of c) ≡ false → is_before (number_of n) (least r (number_of c)) ≡ false → option_map (λ b. (f b, left)) res ≡ taken_where cs' c
         → option_map (λ b. (f b, woven ns' (woven rs left))) res ≡ pick t (woven ns (woven rs cs))
     content_taken e e' taken =
         rw same_ns (second_side t f ns (woven rs cs) (pick t ns) (pick t (woven rs cs)) res (woven rs left) (is_first false e')
         (second_side t f rs cs (pick t rs) (pick t cs) res left (is_second false e) (taken ∙ ap (λ zs. taken_where zs c) same_cs ∙ fc.place) ∙ sym both_picked) ∙ sym all_picked)
+
+-- ---- which class is first
+
+module _ (n r c : Option ℕ) where
+  pub notice_first : first_class n r c ≡ classes.Notice → is_before n (least r c) ≡ true
+  notice_first is = by (is_before n (least r c)) (is_before r c) is
+    where
+      by : (a b : Bool) → (if a then classes.Notice else if b then classes.Response else classes.Content) ≡ classes.Notice → a ≡ true
+      by true b e = refl
+      by false true e = cc
+      by false false e = cc
+
+  pub response_first : first_class n r c ≡ classes.Response → (is_before n (least r c) ≡ false) × (is_before r c ≡ true)
+  response_first is = by (is_before n (least r c)) (is_before r c) is
+    where
+      by : (a b : Bool) → (if a then classes.Notice else if b then classes.Response else classes.Content) ≡ classes.Response → (a ≡ false) × (b ≡ true)
+      by true b e = cc
+      by false true e = (refl, refl)
+      by false false e = cc
+
+  pub content_first : first_class n r c ≡ classes.Content → (is_before n (least r c) ≡ false) × (is_before r c ≡ false)
+  content_first is = by (is_before n (least r c)) (is_before r c) is
+    where
+      by : (a b : Bool) → (if a then classes.Notice else if b then classes.Response else classes.Content) ≡ classes.Content → (a ≡ false) × (b ≡ false)
+      by true b e = cc
+      by false true e = cc
+      by false false e = (refl, refl)
+
+pub class_is : (a b r : Option ℕ) (n c : Option Found) (x y : Class) → a ≡ number_of n → b ≡ number_of c → x ≡ first_class a r b → x ≡ y → first_class (number_of n) r (number_of c) ≡ y
+class_is a b r n c x y one two is same =
+    ap (λ o. first_class o r (number_of c)) (sym one) ∙ ap (λ o. first_class a r o) (sym two) ∙ sym is ∙ same
+
+-- ---- what the search of the three queues found
+
+pub record Searched (test : Taken → Bool) (l : Line) (ns' cs' : List Arrived) (n : Option Found) (r : Option ℕ) (c : Option Found) : Type 0 where
+  pub sorted : IsSorted l
+  pub notice : IsFound test (all_arrived l.notices.items) n
+  pub response : r ≡ number_taken (pick (at_arrived test) l.responses.here)
+  pub content : IsFound test (all_arrived l.contents.items) c
+  pub same_notices : ns' ≡ all_arrived l.notices.items
+  pub same_contents : cs' ≡ all_arrived l.contents.items
+
+module _ (test : Taken → Bool) (l : Line) (ns' cs' : List Arrived) (n : Option Found) (r : Option ℕ) (c : Option Found) (s : Searched test l ns' cs' n r c) {B : Type 0} (f : B → Arrived) (res : Option B) (left : List Arrived) where
+  abbrev ns : List Arrived
+  ns = all_arrived l.notices.items
+
+  abbrev rs : List Arrived
+  rs = l.responses.here
+
+  abbrev cs : List Arrived
+  cs = all_arrived l.contents.items
+
+  abbrev Out : List Arrived → Type 0
+  Out zs = option_map (λ b. (f b, left)) res ≡ pick (at_arrived test) zs
+
+  pub notice_picked : option_map (λ b. (f b, left)) res ≡ taken_where ns' n → Out ns
+  notice_picked taken = taken ∙ ap (λ zs. taken_where zs n) s.same_notices ∙ s.notice.place
+
+  pub content_picked : option_map (λ b. (f b, left)) res ≡ taken_where cs' c → Out cs
+  content_picked taken = taken ∙ ap (λ zs. taken_where zs c) s.same_contents ∙ s.content.place
+
+  pub notice_out : first_class (number_of n) r (number_of c) ≡ classes.Notice → option_map (λ b. (f b, left)) res ≡ taken_where ns' n
+      → option_map (λ b. (f b, woven left (woven rs cs'))) res ≡ pick (at_arrived test) (numbered l)
+  notice_out is taken =
+      notice_taken test ns rs cs s.sorted.notices.ordered s.sorted.responses.ordered s.sorted.contents.ordered n r c s.notice s.response s.content f res left ns' cs' s.same_notices s.same_contents
+      (notice_first (number_of n) r (number_of c) is) taken
+
+  pub response_out : first_class (number_of n) r (number_of c) ≡ classes.Response → Out rs → option_map (λ b. (f b, woven ns' (woven left cs'))) res ≡ pick (at_arrived test) (numbered l)
+  response_out is taken =
+      let e = response_first (number_of n) r (number_of c) is in
+      response_taken test ns rs cs s.sorted.notices.ordered s.sorted.responses.ordered s.sorted.contents.ordered n r c s.notice s.response s.content f res left ns' cs' s.same_notices s.same_contents e.1 e.0 taken
+
+  pub content_out : first_class (number_of n) r (number_of c) ≡ classes.Content → option_map (λ b. (f b, left)) res ≡ taken_where cs' c
+      → option_map (λ b. (f b, woven ns' (woven rs left))) res ≡ pick (at_arrived test) (numbered l)
+  content_out is taken =
+      let e = content_first (number_of n) r (number_of c) is in
+      content_taken test ns rs cs s.sorted.notices.ordered s.sorted.responses.ordered s.sorted.contents.ordered n r c s.notice s.response s.content f res left ns' cs' s.same_notices s.same_contents e.1 e.0 taken

@@ -1,7 +1,8 @@
 use Rattle.std.proofs.Common.{◌∙◌, sym, ap, subst, map, filter, arith}
 use Rattle.caf_message.specs.Envelope.{plain_envelope, is_content}
 use Rattle.caf_message.specs.Lists.{pick}
-use Rattle.caf_mailbox.specs.Line.{arrived, all_arrived, numbered, at_arrived, IsSorted}
+use Rattle.caf_mailbox.specs.Arrived.{arrived, all_arrived, at_arrived}
+use Rattle.caf_mailbox.specs.Line.{numbered, IsSorted}
 use Rattle.caf_mailbox.specs.Passed.{NonePass}
 use Rattle.caf_mailbox.specs.declared.line.Line.{Line}
 use Rattle.caf_mailbox.proofs.SearchLemmas.{length_map}

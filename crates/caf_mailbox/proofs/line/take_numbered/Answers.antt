@@ -1,300 +1,255 @@
-use Rattle.std.proofs.Common.{◌≡◌, ◌∙◌, ◌≤◌, suc, List, true, false, sym, ap, subst}
+use Rattle.std.proofs.Common.{◌≡◌, ◌∙◌, ◌≤◌, suc, List, sym, ap, subst}
 use Rattle.caf_message.specs.declared.envelope.Taken.{Taken}
 use Rattle.caf_message.specs.Envelope.{is_system, is_response, is_content}
+use Rattle.caf_mailbox.specs.Arrived.{Arrived, arrived, all_arrived, at_arrived}
 use Rattle.caf_mailbox.specs.Awaited.{is_awaited}
-use Rattle.caf_mailbox.specs.Line.{Arrived, arrived, all_arrived, at_arrived, taken_where, number_of, IsQueue, IsFound}
-use Rattle.caf_mailbox.specs.Order.{AreBelow, is_before, least}
-use Rattle.caf_mailbox.proofs.LineLemmas.{all_of, kept_on, all_taken, queue_taken, pass_taken, notice_taken, response_taken, content_taken}
+use Rattle.caf_mailbox.specs.Line.{IsQueue, taken_where}
+use Rattle.caf_mailbox.specs.Order.{AreBelow}
+use Rattle.caf_mailbox.specs.declared.class.Class.TheVariants as classes
+use Rattle.caf_mailbox.proofs.LineLemmas.{Searched, class_is, all_of, kept_on, all_taken, queue_taken, pass_taken, notice_picked, content_picked, notice_out, response_out, content_out}
 use Rattle.caf_mailbox.proofs.line.take_numbered.Goals as goal
 
-pub returns-then-is_before-2-clause-taken : goal.returns-then-is_before-2-clause-taken
-returns-then-is_before-2-clause-taken g c =
+pub returns-in-Notice-clause-taken : goal.returns-in-Notice-clause-taken
+returns-in-Notice-clause-taken g c =
     let line = c.args.line.now in
     let test = g.E.Eligible.test c.args.test.now in
-    let ns = all_arrived line.notices.items in
-    let rs = all_arrived line.responses.items in
-    let cs = all_arrived line.contents.items in
     let n = c.first_from-notice.result in
-    let r = c.first_awaited-response.result in
+    let r = c.first-response.result in
     let k = c.first_content-content.result in
-    let fn : IsFound test ns n = c.first_from-notice.ensures.found in
-    let fr : IsFound test rs r =
-    c.first_awaited-response.ensures test (all_of is_response (λ (e : Taken). test e ≡ is_awaited c.awaits.result e.mid.number) c.awaits.ensures rs c.requires.sorted.responses.class) in
-    let fc : IsFound test cs k = c.first_content-content.ensures.found in
-    let same_ns = c.first_from-notice.ensures.kept in
-    let same_cs = c.first_content-content.ensures.kept in
-    let first : is_before (number_of r) (number_of k) ≡ true = sym c.if-is_before.ensures in
-    let e : is_before (number_of n) (least (number_of r) (number_of k)) ≡ true = rw first (sym c.if-is_before-2.ensures) in
-    notice_taken test ns rs cs c.requires.sorted.notices.ordered c.requires.sorted.responses.ordered c.requires.sorted.contents.ordered n r k fn fr fc arrived c.take_at.result (all_arrived c.take_at.new.queue.items) (all_arrived c.first_from-notice.new.queue.items) (all_arrived c.first_content-content.new.queue.items) same_ns same_cs e c.take_at.ensures.taken
-
-pub returns-then-is_before-2-clause-sorted : goal.returns-then-is_before-2-clause-sorted
-returns-then-is_before-2-clause-sorted g c =
-    let line = c.args.line.now in
-    let test = g.E.Eligible.test c.args.test.now in
-    let ns = all_arrived line.notices.items in
-    let rs = all_arrived line.responses.items in
-    let cs = all_arrived line.contents.items in
-    let n = c.first_from-notice.result in
-    let r = c.first_awaited-response.result in
-    let k = c.first_content-content.result in
-    let fn : IsFound test ns n = c.first_from-notice.ensures.found in
-    let fr : IsFound test rs r =
-    c.first_awaited-response.ensures test (all_of is_response (λ (e : Taken). test e ≡ is_awaited c.awaits.result e.mid.number) c.awaits.ensures rs c.requires.sorted.responses.class) in
-    let fc : IsFound test cs k = c.first_content-content.ensures.found in
-    let same_ns = c.first_from-notice.ensures.kept in
-    let same_cs = c.first_content-content.ensures.kept in
-    let taken = c.take_at.ensures.taken ∙ ap (λ (zs : List Arrived). taken_where zs n) same_ns ∙ fn.place in
-    let kept = kept_on c.take_at.result _ _ ns c.take_at.ensures.kept same_ns in
+    let ns = all_arrived c.first_from-notice.new.queue.items in
+    let cs = all_arrived c.first_content-content.new.queue.items in
+    let s : Searched test line ns cs n r k =
     record {
-      notices = queue_taken arrived (at_arrived test) ns (all_arrived c.take_at.new.queue.items) c.take_at.result taken kept is_system c.requires.sorted.notices;
+      sorted = c.requires.sorted;
+      notice = c.first_from-notice.ensures.found;
+      response = c.first-response.ensures test (all_of is_response (λ (e : Taken). test e ≡ is_awaited c.awaits.result e.mid.number) c.awaits.ensures line.responses.here c.requires.sorted.responses.class);
+      content = c.first_content-content.ensures.found;
+      same_notices = c.first_from-notice.ensures.kept;
+      same_contents = c.first_content-content.ensures.kept;
+    } in
+    notice_out test line ns cs n r k s arrived c.take_at.result (all_arrived c.take_at.new.queue.items) (class_is c.number_of.result c.number_of-2.result r n k c.first_class.result classes.Notice c.number_of.ensures c.number_of-2.ensures c.first_class.ensures c.in-Notice.is) c.take_at.ensures.taken
+
+pub returns-in-Notice-clause-sorted : goal.returns-in-Notice-clause-sorted
+returns-in-Notice-clause-sorted g c =
+    let line = c.args.line.now in
+    let test = g.E.Eligible.test c.args.test.now in
+    let n = c.first_from-notice.result in
+    let r = c.first-response.result in
+    let k = c.first_content-content.result in
+    let ns = all_arrived c.first_from-notice.new.queue.items in
+    let cs = all_arrived c.first_content-content.new.queue.items in
+    let s : Searched test line ns cs n r k =
+    record {
+      sorted = c.requires.sorted;
+      notice = c.first_from-notice.ensures.found;
+      response = c.first-response.ensures test (all_of is_response (λ (e : Taken). test e ≡ is_awaited c.awaits.result e.mid.number) c.awaits.ensures line.responses.here c.requires.sorted.responses.class);
+      content = c.first_content-content.ensures.found;
+      same_notices = c.first_from-notice.ensures.kept;
+      same_contents = c.first_content-content.ensures.kept;
+    } in
+    let left = all_arrived c.take_at.new.queue.items in
+    let taken = notice_picked test line ns cs n r k s arrived c.take_at.result left c.take_at.ensures.taken in
+    let kept = kept_on c.take_at.result _ _ (all_arrived line.notices.items) c.take_at.ensures.kept s.same_notices in
+    record {
+      notices = queue_taken arrived (at_arrived test) (all_arrived line.notices.items) left c.take_at.result taken kept is_system c.requires.sorted.notices;
       responses = c.requires.sorted.responses;
-      contents = subst (λ (zs : List Arrived). IsQueue is_content zs) (sym same_cs) c.requires.sorted.contents;
+      contents = subst (λ (zs : List Arrived). IsQueue is_content zs) (sym s.same_contents) c.requires.sorted.contents;
     }
 
-pub returns-then-is_before-2-clause-up_to : goal.returns-then-is_before-2-clause-up_to
-returns-then-is_before-2-clause-up_to g c = λ next up_to.
+pub returns-in-Notice-clause-up_to : goal.returns-in-Notice-clause-up_to
+returns-in-Notice-clause-up_to g c = λ next up_to.
     let line = c.args.line.now in
     let test = g.E.Eligible.test c.args.test.now in
-    let ns = all_arrived line.notices.items in
-    let rs = all_arrived line.responses.items in
-    let cs = all_arrived line.contents.items in
     let n = c.first_from-notice.result in
-    let r = c.first_awaited-response.result in
+    let r = c.first-response.result in
     let k = c.first_content-content.result in
-    let fn : IsFound test ns n = c.first_from-notice.ensures.found in
-    let fr : IsFound test rs r =
-    c.first_awaited-response.ensures test (all_of is_response (λ (e : Taken). test e ≡ is_awaited c.awaits.result e.mid.number) c.awaits.ensures rs c.requires.sorted.responses.class) in
-    let fc : IsFound test cs k = c.first_content-content.ensures.found in
-    let same_ns = c.first_from-notice.ensures.kept in
-    let same_cs = c.first_content-content.ensures.kept in
-    let taken = c.take_at.ensures.taken ∙ ap (λ (zs : List Arrived). taken_where zs n) same_ns ∙ fn.place in
-    let kept = kept_on c.take_at.result _ _ ns c.take_at.ensures.kept same_ns in
+    let ns = all_arrived c.first_from-notice.new.queue.items in
+    let cs = all_arrived c.first_content-content.new.queue.items in
+    let s : Searched test line ns cs n r k =
     record {
-      notices = all_taken arrived (at_arrived test) ns (all_arrived c.take_at.new.queue.items) c.take_at.result taken kept (λ (z : Arrived). suc z.0 ≤ next) up_to.notices;
+      sorted = c.requires.sorted;
+      notice = c.first_from-notice.ensures.found;
+      response = c.first-response.ensures test (all_of is_response (λ (e : Taken). test e ≡ is_awaited c.awaits.result e.mid.number) c.awaits.ensures line.responses.here c.requires.sorted.responses.class);
+      content = c.first_content-content.ensures.found;
+      same_notices = c.first_from-notice.ensures.kept;
+      same_contents = c.first_content-content.ensures.kept;
+    } in
+    let left = all_arrived c.take_at.new.queue.items in
+    let taken = notice_picked test line ns cs n r k s arrived c.take_at.result left c.take_at.ensures.taken in
+    let kept = kept_on c.take_at.result _ _ (all_arrived line.notices.items) c.take_at.ensures.kept s.same_notices in
+    record {
+      notices = all_taken arrived (at_arrived test) (all_arrived line.notices.items) left c.take_at.result taken kept (λ (z : Arrived). suc z.0 ≤ next) up_to.notices;
       responses = up_to.responses;
-      contents = subst (λ (zs : List Arrived). AreBelow next zs) (sym same_cs) up_to.contents;
+      contents = subst (λ (zs : List Arrived). AreBelow next zs) (sym s.same_contents) up_to.contents;
     }
 
-pub returns-then-is_before-clause-taken : goal.returns-then-is_before-clause-taken
-returns-then-is_before-clause-taken g c =
+pub returns-in-Response-clause-taken : goal.returns-in-Response-clause-taken
+returns-in-Response-clause-taken g c =
     let line = c.args.line.now in
     let test = g.E.Eligible.test c.args.test.now in
-    let ns = all_arrived line.notices.items in
-    let rs = all_arrived line.responses.items in
-    let cs = all_arrived line.contents.items in
     let n = c.first_from-notice.result in
-    let r = c.first_awaited-response.result in
+    let r = c.first-response.result in
     let k = c.first_content-content.result in
-    let fn : IsFound test ns n = c.first_from-notice.ensures.found in
-    let fr : IsFound test rs r =
-    c.first_awaited-response.ensures test (all_of is_response (λ (e : Taken). test e ≡ is_awaited c.awaits.result e.mid.number) c.awaits.ensures rs c.requires.sorted.responses.class) in
-    let fc : IsFound test cs k = c.first_content-content.ensures.found in
-    let same_ns = c.first_from-notice.ensures.kept in
-    let same_cs = c.first_content-content.ensures.kept in
-    let first : is_before (number_of r) (number_of k) ≡ true = sym c.if-is_before.ensures in
-    let e : is_before (number_of n) (least (number_of r) (number_of k)) ≡ false = rw first (sym c.if-is_before-2.ensures) in
-    response_taken test ns rs cs c.requires.sorted.notices.ordered c.requires.sorted.responses.ordered c.requires.sorted.contents.ordered n r k fn fr fc arrived c.take_at-then-is_before.result (all_arrived c.take_at-then-is_before.new.queue.items) (all_arrived c.first_from-notice.new.queue.items) (all_arrived c.first_content-content.new.queue.items) same_ns same_cs first e c.take_at-then-is_before.ensures.taken
-
-pub returns-then-is_before-clause-sorted : goal.returns-then-is_before-clause-sorted
-returns-then-is_before-clause-sorted g c =
-    let line = c.args.line.now in
-    let test = g.E.Eligible.test c.args.test.now in
-    let ns = all_arrived line.notices.items in
-    let rs = all_arrived line.responses.items in
-    let cs = all_arrived line.contents.items in
-    let n = c.first_from-notice.result in
-    let r = c.first_awaited-response.result in
-    let k = c.first_content-content.result in
-    let fn : IsFound test ns n = c.first_from-notice.ensures.found in
-    let fr : IsFound test rs r =
-    c.first_awaited-response.ensures test (all_of is_response (λ (e : Taken). test e ≡ is_awaited c.awaits.result e.mid.number) c.awaits.ensures rs c.requires.sorted.responses.class) in
-    let fc : IsFound test cs k = c.first_content-content.ensures.found in
-    let same_ns = c.first_from-notice.ensures.kept in
-    let same_cs = c.first_content-content.ensures.kept in
-    let taken = c.take_at-then-is_before.ensures.taken ∙ fr.place in
-    let kept = c.take_at-then-is_before.ensures.kept in
+    let ns = all_arrived c.first_from-notice.new.queue.items in
+    let cs = all_arrived c.first_content-content.new.queue.items in
+    let s : Searched test line ns cs n r k =
     record {
-      notices = subst (λ (zs : List Arrived). IsQueue is_system zs) (sym same_ns) c.requires.sorted.notices;
-      responses = queue_taken arrived (at_arrived test) rs (all_arrived c.take_at-then-is_before.new.queue.items) c.take_at-then-is_before.result taken kept is_response c.requires.sorted.responses;
-      contents = subst (λ (zs : List Arrived). IsQueue is_content zs) (sym same_cs) c.requires.sorted.contents;
+      sorted = c.requires.sorted;
+      notice = c.first_from-notice.ensures.found;
+      response = c.first-response.ensures test (all_of is_response (λ (e : Taken). test e ≡ is_awaited c.awaits.result e.mid.number) c.awaits.ensures line.responses.here c.requires.sorted.responses.class);
+      content = c.first_content-content.ensures.found;
+      same_notices = c.first_from-notice.ensures.kept;
+      same_contents = c.first_content-content.ensures.kept;
+    } in
+    let left = c.take.new.self.here in
+    let taken = c.take.ensures.taken (at_arrived test) s.response in
+    response_out test line ns cs n r k s arrived c.take.result left (class_is c.number_of.result c.number_of-2.result r n k c.first_class.result classes.Response c.number_of.ensures c.number_of-2.ensures c.first_class.ensures c.in-Response.is) taken
+
+pub returns-in-Response-clause-sorted : goal.returns-in-Response-clause-sorted
+returns-in-Response-clause-sorted g c =
+    let line = c.args.line.now in
+    let test = g.E.Eligible.test c.args.test.now in
+    let n = c.first_from-notice.result in
+    let r = c.first-response.result in
+    let k = c.first_content-content.result in
+    let ns = all_arrived c.first_from-notice.new.queue.items in
+    let cs = all_arrived c.first_content-content.new.queue.items in
+    let s : Searched test line ns cs n r k =
+    record {
+      sorted = c.requires.sorted;
+      notice = c.first_from-notice.ensures.found;
+      response = c.first-response.ensures test (all_of is_response (λ (e : Taken). test e ≡ is_awaited c.awaits.result e.mid.number) c.awaits.ensures line.responses.here c.requires.sorted.responses.class);
+      content = c.first_content-content.ensures.found;
+      same_notices = c.first_from-notice.ensures.kept;
+      same_contents = c.first_content-content.ensures.kept;
+    } in
+    let left = c.take.new.self.here in
+    let taken = c.take.ensures.taken (at_arrived test) s.response in
+    record {
+      notices = subst (λ (zs : List Arrived). IsQueue is_system zs) (sym s.same_notices) c.requires.sorted.notices;
+      responses = queue_taken arrived (at_arrived test) line.responses.here left c.take.result taken c.take.ensures.kept is_response c.requires.sorted.responses;
+      contents = subst (λ (zs : List Arrived). IsQueue is_content zs) (sym s.same_contents) c.requires.sorted.contents;
     }
 
-pub returns-then-is_before-clause-up_to : goal.returns-then-is_before-clause-up_to
-returns-then-is_before-clause-up_to g c = λ next up_to.
+pub returns-in-Response-clause-up_to : goal.returns-in-Response-clause-up_to
+returns-in-Response-clause-up_to g c = λ next up_to.
     let line = c.args.line.now in
     let test = g.E.Eligible.test c.args.test.now in
-    let ns = all_arrived line.notices.items in
-    let rs = all_arrived line.responses.items in
-    let cs = all_arrived line.contents.items in
     let n = c.first_from-notice.result in
-    let r = c.first_awaited-response.result in
+    let r = c.first-response.result in
     let k = c.first_content-content.result in
-    let fn : IsFound test ns n = c.first_from-notice.ensures.found in
-    let fr : IsFound test rs r =
-    c.first_awaited-response.ensures test (all_of is_response (λ (e : Taken). test e ≡ is_awaited c.awaits.result e.mid.number) c.awaits.ensures rs c.requires.sorted.responses.class) in
-    let fc : IsFound test cs k = c.first_content-content.ensures.found in
-    let same_ns = c.first_from-notice.ensures.kept in
-    let same_cs = c.first_content-content.ensures.kept in
-    let taken = c.take_at-then-is_before.ensures.taken ∙ fr.place in
-    let kept = c.take_at-then-is_before.ensures.kept in
+    let ns = all_arrived c.first_from-notice.new.queue.items in
+    let cs = all_arrived c.first_content-content.new.queue.items in
+    let s : Searched test line ns cs n r k =
     record {
-      notices = subst (λ (zs : List Arrived). AreBelow next zs) (sym same_ns) up_to.notices;
-      responses = all_taken arrived (at_arrived test) rs (all_arrived c.take_at-then-is_before.new.queue.items) c.take_at-then-is_before.result taken kept (λ (z : Arrived). suc z.0 ≤ next) up_to.responses;
-      contents = subst (λ (zs : List Arrived). AreBelow next zs) (sym same_cs) up_to.contents;
+      sorted = c.requires.sorted;
+      notice = c.first_from-notice.ensures.found;
+      response = c.first-response.ensures test (all_of is_response (λ (e : Taken). test e ≡ is_awaited c.awaits.result e.mid.number) c.awaits.ensures line.responses.here c.requires.sorted.responses.class);
+      content = c.first_content-content.ensures.found;
+      same_notices = c.first_from-notice.ensures.kept;
+      same_contents = c.first_content-content.ensures.kept;
+    } in
+    let left = c.take.new.self.here in
+    let taken = c.take.ensures.taken (at_arrived test) s.response in
+    record {
+      notices = subst (λ (zs : List Arrived). AreBelow next zs) (sym s.same_notices) up_to.notices;
+      responses = all_taken arrived (at_arrived test) line.responses.here left c.take.result taken c.take.ensures.kept (λ (z : Arrived). suc z.0 ≤ next) up_to.responses;
+      contents = subst (λ (zs : List Arrived). AreBelow next zs) (sym s.same_contents) up_to.contents;
     }
 
-pub returns-then-is_before-3-clause-taken : goal.returns-then-is_before-3-clause-taken
-returns-then-is_before-3-clause-taken g c =
+pub returns-in-Content-clause-taken : goal.returns-in-Content-clause-taken
+returns-in-Content-clause-taken g c =
     let line = c.args.line.now in
     let test = g.E.Eligible.test c.args.test.now in
-    let ns = all_arrived line.notices.items in
-    let rs = all_arrived line.responses.items in
-    let cs = all_arrived line.contents.items in
     let n = c.first_from-notice.result in
-    let r = c.first_awaited-response.result in
+    let r = c.first-response.result in
     let k = c.first_content-content.result in
-    let fn : IsFound test ns n = c.first_from-notice.ensures.found in
-    let fr : IsFound test rs r =
-    c.first_awaited-response.ensures test (all_of is_response (λ (e : Taken). test e ≡ is_awaited c.awaits.result e.mid.number) c.awaits.ensures rs c.requires.sorted.responses.class) in
-    let fc : IsFound test cs k = c.first_content-content.ensures.found in
-    let same_ns = c.first_from-notice.ensures.kept in
-    let same_cs = c.first_content-content.ensures.kept in
-    let first : is_before (number_of r) (number_of k) ≡ false = sym c.if-is_before.ensures in
-    let e : is_before (number_of n) (least (number_of r) (number_of k)) ≡ true = rw first (sym c.if-is_before-3.ensures) in
-    notice_taken test ns rs cs c.requires.sorted.notices.ordered c.requires.sorted.responses.ordered c.requires.sorted.contents.ordered n r k fn fr fc arrived c.take_at-then-is_before-3.result (all_arrived c.take_at-then-is_before-3.new.queue.items) (all_arrived c.first_from-notice.new.queue.items) (all_arrived c.first_content-content.new.queue.items) same_ns same_cs e c.take_at-then-is_before-3.ensures.taken
-
-pub returns-then-is_before-3-clause-sorted : goal.returns-then-is_before-3-clause-sorted
-returns-then-is_before-3-clause-sorted g c =
-    let line = c.args.line.now in
-    let test = g.E.Eligible.test c.args.test.now in
-    let ns = all_arrived line.notices.items in
-    let rs = all_arrived line.responses.items in
-    let cs = all_arrived line.contents.items in
-    let n = c.first_from-notice.result in
-    let r = c.first_awaited-response.result in
-    let k = c.first_content-content.result in
-    let fn : IsFound test ns n = c.first_from-notice.ensures.found in
-    let fr : IsFound test rs r =
-    c.first_awaited-response.ensures test (all_of is_response (λ (e : Taken). test e ≡ is_awaited c.awaits.result e.mid.number) c.awaits.ensures rs c.requires.sorted.responses.class) in
-    let fc : IsFound test cs k = c.first_content-content.ensures.found in
-    let same_ns = c.first_from-notice.ensures.kept in
-    let same_cs = c.first_content-content.ensures.kept in
-    let taken = c.take_at-then-is_before-3.ensures.taken ∙ ap (λ (zs : List Arrived). taken_where zs n) same_ns ∙ fn.place in
-    let kept = kept_on c.take_at-then-is_before-3.result _ _ ns c.take_at-then-is_before-3.ensures.kept same_ns in
+    let ns = all_arrived c.first_from-notice.new.queue.items in
+    let cs = all_arrived c.first_content-content.new.queue.items in
+    let s : Searched test line ns cs n r k =
     record {
-      notices = queue_taken arrived (at_arrived test) ns (all_arrived c.take_at-then-is_before-3.new.queue.items) c.take_at-then-is_before-3.result taken kept is_system c.requires.sorted.notices;
+      sorted = c.requires.sorted;
+      notice = c.first_from-notice.ensures.found;
+      response = c.first-response.ensures test (all_of is_response (λ (e : Taken). test e ≡ is_awaited c.awaits.result e.mid.number) c.awaits.ensures line.responses.here c.requires.sorted.responses.class);
+      content = c.first_content-content.ensures.found;
+      same_notices = c.first_from-notice.ensures.kept;
+      same_contents = c.first_content-content.ensures.kept;
+    } in
+    content_out test line ns cs n r k s arrived c.take_at-in-Content.result (all_arrived c.take_at-in-Content.new.queue.items) (class_is c.number_of.result c.number_of-2.result r n k c.first_class.result classes.Content c.number_of.ensures c.number_of-2.ensures c.first_class.ensures c.in-Content.is) c.take_at-in-Content.ensures.taken
+
+pub returns-in-Content-clause-sorted : goal.returns-in-Content-clause-sorted
+returns-in-Content-clause-sorted g c =
+    let line = c.args.line.now in
+    let test = g.E.Eligible.test c.args.test.now in
+    let n = c.first_from-notice.result in
+    let r = c.first-response.result in
+    let k = c.first_content-content.result in
+    let ns = all_arrived c.first_from-notice.new.queue.items in
+    let cs = all_arrived c.first_content-content.new.queue.items in
+    let s : Searched test line ns cs n r k =
+    record {
+      sorted = c.requires.sorted;
+      notice = c.first_from-notice.ensures.found;
+      response = c.first-response.ensures test (all_of is_response (λ (e : Taken). test e ≡ is_awaited c.awaits.result e.mid.number) c.awaits.ensures line.responses.here c.requires.sorted.responses.class);
+      content = c.first_content-content.ensures.found;
+      same_notices = c.first_from-notice.ensures.kept;
+      same_contents = c.first_content-content.ensures.kept;
+    } in
+    let left = all_arrived c.take_at-in-Content.new.queue.items in
+    let taken = content_picked test line ns cs n r k s arrived c.take_at-in-Content.result left c.take_at-in-Content.ensures.taken in
+    let kept = kept_on c.take_at-in-Content.result _ _ (all_arrived line.contents.items) c.take_at-in-Content.ensures.kept s.same_contents in
+    record {
+      notices = subst (λ (zs : List Arrived). IsQueue is_system zs) (sym s.same_notices) c.requires.sorted.notices;
       responses = c.requires.sorted.responses;
-      contents = subst (λ (zs : List Arrived). IsQueue is_content zs) (sym same_cs) c.requires.sorted.contents;
+      contents = queue_taken arrived (at_arrived test) (all_arrived line.contents.items) left c.take_at-in-Content.result taken kept is_content c.requires.sorted.contents;
     }
 
-pub returns-then-is_before-3-clause-up_to : goal.returns-then-is_before-3-clause-up_to
-returns-then-is_before-3-clause-up_to g c = λ next up_to.
+pub returns-in-Content-clause-up_to : goal.returns-in-Content-clause-up_to
+returns-in-Content-clause-up_to g c = λ next up_to.
     let line = c.args.line.now in
     let test = g.E.Eligible.test c.args.test.now in
-    let ns = all_arrived line.notices.items in
-    let rs = all_arrived line.responses.items in
-    let cs = all_arrived line.contents.items in
     let n = c.first_from-notice.result in
-    let r = c.first_awaited-response.result in
+    let r = c.first-response.result in
     let k = c.first_content-content.result in
-    let fn : IsFound test ns n = c.first_from-notice.ensures.found in
-    let fr : IsFound test rs r =
-    c.first_awaited-response.ensures test (all_of is_response (λ (e : Taken). test e ≡ is_awaited c.awaits.result e.mid.number) c.awaits.ensures rs c.requires.sorted.responses.class) in
-    let fc : IsFound test cs k = c.first_content-content.ensures.found in
-    let same_ns = c.first_from-notice.ensures.kept in
-    let same_cs = c.first_content-content.ensures.kept in
-    let taken = c.take_at-then-is_before-3.ensures.taken ∙ ap (λ (zs : List Arrived). taken_where zs n) same_ns ∙ fn.place in
-    let kept = kept_on c.take_at-then-is_before-3.result _ _ ns c.take_at-then-is_before-3.ensures.kept same_ns in
+    let ns = all_arrived c.first_from-notice.new.queue.items in
+    let cs = all_arrived c.first_content-content.new.queue.items in
+    let s : Searched test line ns cs n r k =
     record {
-      notices = all_taken arrived (at_arrived test) ns (all_arrived c.take_at-then-is_before-3.new.queue.items) c.take_at-then-is_before-3.result taken kept (λ (z : Arrived). suc z.0 ≤ next) up_to.notices;
+      sorted = c.requires.sorted;
+      notice = c.first_from-notice.ensures.found;
+      response = c.first-response.ensures test (all_of is_response (λ (e : Taken). test e ≡ is_awaited c.awaits.result e.mid.number) c.awaits.ensures line.responses.here c.requires.sorted.responses.class);
+      content = c.first_content-content.ensures.found;
+      same_notices = c.first_from-notice.ensures.kept;
+      same_contents = c.first_content-content.ensures.kept;
+    } in
+    let left = all_arrived c.take_at-in-Content.new.queue.items in
+    let taken = content_picked test line ns cs n r k s arrived c.take_at-in-Content.result left c.take_at-in-Content.ensures.taken in
+    let kept = kept_on c.take_at-in-Content.result _ _ (all_arrived line.contents.items) c.take_at-in-Content.ensures.kept s.same_contents in
+    record {
+      notices = subst (λ (zs : List Arrived). AreBelow next zs) (sym s.same_notices) up_to.notices;
       responses = up_to.responses;
-      contents = subst (λ (zs : List Arrived). AreBelow next zs) (sym same_cs) up_to.contents;
+      contents = all_taken arrived (at_arrived test) (all_arrived line.contents.items) left c.take_at-in-Content.result taken kept (λ (z : Arrived). suc z.0 ≤ next) up_to.contents;
     }
 
-pub returns-clause-taken : goal.returns-clause-taken
-returns-clause-taken g c =
+pub returns-in-Content-clause-passed : goal.returns-in-Content-clause-passed
+returns-in-Content-clause-passed g c =
     let line = c.args.line.now in
     let test = g.E.Eligible.test c.args.test.now in
-    let ns = all_arrived line.notices.items in
-    let rs = all_arrived line.responses.items in
-    let cs = all_arrived line.contents.items in
     let n = c.first_from-notice.result in
-    let r = c.first_awaited-response.result in
+    let r = c.first-response.result in
     let k = c.first_content-content.result in
-    let fn : IsFound test ns n = c.first_from-notice.ensures.found in
-    let fr : IsFound test rs r =
-    c.first_awaited-response.ensures test (all_of is_response (λ (e : Taken). test e ≡ is_awaited c.awaits.result e.mid.number) c.awaits.ensures rs c.requires.sorted.responses.class) in
-    let fc : IsFound test cs k = c.first_content-content.ensures.found in
-    let same_ns = c.first_from-notice.ensures.kept in
-    let same_cs = c.first_content-content.ensures.kept in
-    let first : is_before (number_of r) (number_of k) ≡ false = sym c.if-is_before.ensures in
-    let e : is_before (number_of n) (least (number_of r) (number_of k)) ≡ false = rw first (sym c.if-is_before-3.ensures) in
-    content_taken test ns rs cs c.requires.sorted.notices.ordered c.requires.sorted.responses.ordered c.requires.sorted.contents.ordered n r k fn fr fc arrived c.take_at-2.result (all_arrived c.take_at-2.new.queue.items) (all_arrived c.first_from-notice.new.queue.items) (all_arrived c.first_content-content.new.queue.items) same_ns same_cs first e c.take_at-2.ensures.taken
-
-pub returns-clause-sorted : goal.returns-clause-sorted
-returns-clause-sorted g c =
-    let line = c.args.line.now in
-    let test = g.E.Eligible.test c.args.test.now in
-    let ns = all_arrived line.notices.items in
-    let rs = all_arrived line.responses.items in
-    let cs = all_arrived line.contents.items in
-    let n = c.first_from-notice.result in
-    let r = c.first_awaited-response.result in
-    let k = c.first_content-content.result in
-    let fn : IsFound test ns n = c.first_from-notice.ensures.found in
-    let fr : IsFound test rs r =
-    c.first_awaited-response.ensures test (all_of is_response (λ (e : Taken). test e ≡ is_awaited c.awaits.result e.mid.number) c.awaits.ensures rs c.requires.sorted.responses.class) in
-    let fc : IsFound test cs k = c.first_content-content.ensures.found in
-    let same_ns = c.first_from-notice.ensures.kept in
-    let same_cs = c.first_content-content.ensures.kept in
-    let taken = c.take_at-2.ensures.taken ∙ ap (λ (zs : List Arrived). taken_where zs k) same_cs ∙ fc.place in
-    let kept = kept_on c.take_at-2.result _ _ cs c.take_at-2.ensures.kept same_cs in
+    let ns = all_arrived c.first_from-notice.new.queue.items in
+    let cs = all_arrived c.first_content-content.new.queue.items in
+    let s : Searched test line ns cs n r k =
     record {
-      notices = subst (λ (zs : List Arrived). IsQueue is_system zs) (sym same_ns) c.requires.sorted.notices;
-      responses = c.requires.sorted.responses;
-      contents = queue_taken arrived (at_arrived test) cs (all_arrived c.take_at-2.new.queue.items) c.take_at-2.result taken kept is_content c.requires.sorted.contents;
-    }
-
-pub returns-clause-up_to : goal.returns-clause-up_to
-returns-clause-up_to g c = λ next up_to.
-    let line = c.args.line.now in
-    let test = g.E.Eligible.test c.args.test.now in
-    let ns = all_arrived line.notices.items in
-    let rs = all_arrived line.responses.items in
-    let cs = all_arrived line.contents.items in
-    let n = c.first_from-notice.result in
-    let r = c.first_awaited-response.result in
-    let k = c.first_content-content.result in
-    let fn : IsFound test ns n = c.first_from-notice.ensures.found in
-    let fr : IsFound test rs r =
-    c.first_awaited-response.ensures test (all_of is_response (λ (e : Taken). test e ≡ is_awaited c.awaits.result e.mid.number) c.awaits.ensures rs c.requires.sorted.responses.class) in
-    let fc : IsFound test cs k = c.first_content-content.ensures.found in
-    let same_ns = c.first_from-notice.ensures.kept in
-    let same_cs = c.first_content-content.ensures.kept in
-    let taken = c.take_at-2.ensures.taken ∙ ap (λ (zs : List Arrived). taken_where zs k) same_cs ∙ fc.place in
-    let kept = kept_on c.take_at-2.result _ _ cs c.take_at-2.ensures.kept same_cs in
-    record {
-      notices = subst (λ (zs : List Arrived). AreBelow next zs) (sym same_ns) up_to.notices;
-      responses = up_to.responses;
-      contents = all_taken arrived (at_arrived test) cs (all_arrived c.take_at-2.new.queue.items) c.take_at-2.result taken kept (λ (z : Arrived). suc z.0 ≤ next) up_to.contents;
-    }
-
-pub returns-clause-passed : goal.returns-clause-passed
-returns-clause-passed g c =
-    let line = c.args.line.now in
-    let test = g.E.Eligible.test c.args.test.now in
-    let ns = all_arrived line.notices.items in
-    let rs = all_arrived line.responses.items in
-    let cs = all_arrived line.contents.items in
-    let n = c.first_from-notice.result in
-    let r = c.first_awaited-response.result in
-    let k = c.first_content-content.result in
-    let fn : IsFound test ns n = c.first_from-notice.ensures.found in
-    let fr : IsFound test rs r =
-    c.first_awaited-response.ensures test (all_of is_response (λ (e : Taken). test e ≡ is_awaited c.awaits.result e.mid.number) c.awaits.ensures rs c.requires.sorted.responses.class) in
-    let fc : IsFound test cs k = c.first_content-content.ensures.found in
-    let same_ns = c.first_from-notice.ensures.kept in
-    let same_cs = c.first_content-content.ensures.kept in
-    let taken = c.take_at-2.ensures.taken ∙ ap (λ (zs : List Arrived). taken_where zs k) same_cs in
-    let kept = kept_on c.take_at-2.result _ _ cs c.take_at-2.ensures.kept same_cs in
-    pass_taken arrived cs (all_arrived c.take_at-2.new.queue.items) k c.take_at-2.result taken kept (at_arrived test) c.first_content-content.new.passed c.first_content-content.ensures.before c.first_content-content.ensures.passed
+      sorted = c.requires.sorted;
+      notice = c.first_from-notice.ensures.found;
+      response = c.first-response.ensures test (all_of is_response (λ (e : Taken). test e ≡ is_awaited c.awaits.result e.mid.number) c.awaits.ensures line.responses.here c.requires.sorted.responses.class);
+      content = c.first_content-content.ensures.found;
+      same_notices = c.first_from-notice.ensures.kept;
+      same_contents = c.first_content-content.ensures.kept;
+    } in
+    let left = all_arrived c.take_at-in-Content.new.queue.items in
+    let taken = c.take_at-in-Content.ensures.taken ∙ ap (λ (zs : List Arrived). taken_where zs k) s.same_contents in
+    let kept = kept_on c.take_at-in-Content.result _ _ (all_arrived line.contents.items) c.take_at-in-Content.ensures.kept s.same_contents in
+    pass_taken arrived (all_arrived line.contents.items) left k c.take_at-in-Content.result taken kept (at_arrived test) c.first_content-content.new.passed c.first_content-content.ensures.before c.first_content-content.ensures.passed

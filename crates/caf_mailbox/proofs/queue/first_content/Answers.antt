@@ -1,5 +1,5 @@
 use Rattle.caf_message.specs.Envelope.{is_content}
-use Rattle.caf_mailbox.specs.Line.{all_arrived}
+use Rattle.caf_mailbox.specs.Arrived.{all_arrived}
 use Rattle.caf_mailbox.proofs.LineLemmas.{found_no_class}
 use Rattle.caf_mailbox.proofs.queue.first_content.Goals as goal
 use Rattle.std.proofs.Common.{refl}

@@ -1,7 +1,7 @@
 use Rattle.std.proofs.Common.{◌≡◌, ◌∙◌, sym, ap, length, Some, arith, below_more, get_or}
 use Rattle.std.specs.Prelude.{slice_get}
 use Rattle.caf_message.specs.declared.envelope.Taken.{Taken}
-use Rattle.caf_mailbox.specs.Line.{arrived, all_arrived}
+use Rattle.caf_mailbox.specs.Arrived.{arrived, all_arrived}
 use Rattle.caf_mailbox.specs.declared.queue.Numbered.{Numbered}
 use Rattle.caf_mailbox.proofs.SearchLemmas.{map_set_kept, get_map, length_map}
 use Rattle.caf_mailbox.proofs.LineLemmas.{found_at, found_none}

@@ -1,6 +1,6 @@
 use Rattle.std.proofs.Common.{◌≡◌}
 use Rattle.std.specs.VecDeque.{deque_len}
-use Rattle.caf_mailbox.specs.Line.{all_arrived, at_arrived}
+use Rattle.caf_mailbox.specs.Arrived.{all_arrived, at_arrived}
 use Rattle.caf_mailbox.specs.Passed.{NonePass}
 use Rattle.caf_mailbox.proofs.queue.first_from.Given as goal
 

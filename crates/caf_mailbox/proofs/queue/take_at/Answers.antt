@@ -1,5 +1,6 @@
 use Rattle.std.proofs.Common.{◌∙◌, sym, ap}
-use Rattle.caf_mailbox.specs.Line.{arrived, all_arrived, taken_where}
+use Rattle.caf_mailbox.specs.Arrived.{arrived, all_arrived}
+use Rattle.caf_mailbox.specs.Line.{taken_where}
 use Rattle.caf_mailbox.proofs.SearchLemmas.{removed}
 use Rattle.caf_mailbox.proofs.queue.take_at.Goals as goal
 

@@ -9,10 +9,12 @@ use Rattle.caf_mailbox.proofs.caches.Caches.next_past.Goals as goal
 pub invariant_of-self : goal.invariant_of-self
 invariant_of-self g c =
     let h = c.in_err-envelope.ensures in
-    let kept = c.self.invariant.0 in (
-      record { urgent = h.urgent; normal = h.normal; urgent_up_to = h.urgent_up_to _ kept.urgent_up_to; normal_up_to = h.normal_up_to _ kept.normal_up_to },
-      c.self.invariant.1 ∙ sym (ap cached h.kept),
-    )
+    let kept = c.self.invariant.kept in record {
+      kept = record { urgent = h.urgent; normal = h.normal; urgent_up_to = h.urgent_up_to _ kept.urgent_up_to; normal_up_to = h.normal_up_to _ kept.normal_up_to };
+      urgent_places = h.urgent_places;
+      normal_places = h.normal_places;
+      counted = c.self.invariant.counted ∙ sym (ap cached h.kept);
+    }
 
 pub returns-in_err-envelope-clause-some : goal.returns-in_err-envelope-clause-some
 returns-in_err-envelope-clause-some g c =
@@ -22,14 +24,17 @@ returns-in_err-envelope-clause-some g c =
 pub invariant_of-self-2 : goal.invariant_of-self-2
 invariant_of-self-2 g c =
     let h = c.in_ok-envelope.ensures in
-    let kept = c.self.invariant.0 in
+    let kept = c.self.invariant.kept in
     let old = both c.self.inside.urgent c.self.inside.normal in
     let new = both c.take_either.new.urgent c.take_either.new.normal in
     let less : cached old ≡ suc (cached new) = cached_next (g.E.Eligible.test c.args.test.now) old (plain_envelope c.in_ok-envelope.envelope, new) (sym h.next) in
-    let count = c.self.invariant.1 in (
-      record { urgent = h.urgent; normal = h.normal; urgent_up_to = h.urgent_up_to _ kept.urgent_up_to; normal_up_to = h.normal_up_to _ kept.normal_up_to },
-      omega (arith, less, count),
-    )
+    let count = c.self.invariant.counted in
+    record {
+      kept = record { urgent = h.urgent; normal = h.normal; urgent_up_to = h.urgent_up_to _ kept.urgent_up_to; normal_up_to = h.normal_up_to _ kept.normal_up_to };
+      urgent_places = h.urgent_places;
+      normal_places = h.normal_places;
+      counted = omega (arith, less, count);
+    }
 
 pub returns-clause-some : goal.returns-clause-some
 returns-clause-some g c =
