@@ -1,6 +1,7 @@
 -- One of the two lists: the numbered envelopes of all classes, and the late ones.
 use Rattle.std.proofs.Common.{◌≡◌, ◌∙◌, ℕ, zero, suc, ◌<◌, ◌≤◌, Bool, true, false, List, [], ◌∷◌, ◌++◌, length, map, Option, Some, None, IfNone, IfSome, refl, sym, ap, subst, arith, if◌then◌else◌}
-use Rattle.std.specs.Prelude.{nat_le, filter, slice_get, remove}
+use Rattle.std.specs.Prelude.{◌↔◌, nat_le, filter, slice_get, remove, IsSome}
+use Rattle.std.specs.Option.{option_to_list}
 use Rattle.std.specs.List.{AllByRecursion}
 use Rattle.std.specs.Option.{option_map}
 use Rattle.caf_message.specs.declared.envelope.Plain.{Plain}
@@ -13,6 +14,7 @@ use Rattle.caf_mailbox.specs.Order.{put, woven, IsOrdered, is_before, least}
 use Rattle.caf_mailbox.specs.Passed.{NonePass}
 use Rattle.caf_mailbox.specs.Arrived.{Arrived, all_arrived, without_numbers, at_arrived, number_taken}
 use Rattle.caf_mailbox.specs.Line.{numbered, in_line, taken_where, number_of, first_class, IsQueue, IsSorted, IsFound}
+use Rattle.caf_mailbox.specs.Responses.{CachedResponses, no_responses}
 use Rattle.caf_mailbox.specs.declared.class.Class.{Class}
 use Rattle.caf_mailbox.specs.declared.class.Class.TheVariants as classes
 use Rattle.caf_mailbox.specs.declared.line.Line.{Line}
@@ -402,3 +404,42 @@ module _ (test : Taken → Bool) (l : Line) (ns' cs' : List Arrived) (n : Option
   content_out is taken =
       let e = content_first (number_of n) r (number_of c) is in
       content_taken test ns rs cs s.sorted.notices.ordered s.sorted.responses.ordered s.sorted.contents.ordered n r c s.notice s.response s.content f res left ns' cs' s.same_notices s.same_contents e.1 e.0 taken
+
+-- ---- contents alone
+
+pub alone : (ns rs cs : List Arrived) → ns ≡ [] → rs ≡ [] → woven ns (woven rs cs) ≡ cs
+alone ns rs cs one two = rw (one, two) refl
+
+module _ (test : Taken → Bool) (l : Line) (one : l.notices.items ≡ []) (two : l.responses ≡ no_responses) {B : Type 0} (f : B → Arrived) (res : Option B) (left : List Arrived) where
+  none_first : all_arrived l.notices.items ≡ []
+  none_first = ap all_arrived one
+
+  none_second : l.responses.here ≡ []
+  none_second = ap (λ (r : CachedResponses). r.here) two
+
+  pub alone_out : option_map (λ b. (f b, left)) res ≡ pick (at_arrived test) (all_arrived l.contents.items)
+      → option_map (λ b. (f b, woven (all_arrived l.notices.items) (woven l.responses.here left))) res ≡ pick (at_arrived test) (numbered l)
+  alone_out taken =
+      ap (λ (zs : List Arrived). option_map (λ b. (f b, zs)) res) (alone (all_arrived l.notices.items) l.responses.here left none_first none_second) ∙ taken
+      ∙ ap (pick (at_arrived test)) (sym (alone (all_arrived l.notices.items) l.responses.here (all_arrived l.contents.items) none_first none_second))
+
+  pub alone_kept : IfNone res (left ≡ all_arrived l.contents.items) → IfNone res (woven (all_arrived l.notices.items) (woven l.responses.here left) ≡ numbered l)
+  alone_kept kept = by res kept
+    where
+      by : (r : Option B) → IfNone r (left ≡ all_arrived l.contents.items) → IfNone r (woven (all_arrived l.notices.items) (woven l.responses.here left) ≡ numbered l)
+      by None e = ap (λ (zs : List Arrived). woven (all_arrived l.notices.items) (woven l.responses.here zs)) e
+      by (Some b) e = tt
+
+-- the first one of a queue leaves
+pub front_taken : {B : Type 0} (f : B → Arrived) (xs new : List B) (res : Option B) (o : Option Found) (g : Found) (n : ℕ) → n ≡ length xs → xs ≡ option_to_list res ++ new → (IsSome res ↔ (0 < n)) → o ≡ Some g → g.position ≡ 0
+    → option_map (λ b. (f b, map f new)) res ≡ taken_where (map f xs) o
+front_taken f xs new None o g n len items some is first = by xs refl
+  where
+    by : (ys : List B) → xs ≡ ys → None ≡ taken_where (map f xs) o
+    by [] e = rw (e, is, first) refl
+    by (y ∷ ys) e =
+        let size : length xs ≡ suc (length ys) = ap length e in
+        let less : 0 < n = omega arith in
+        let wrong : false ≡ true = some.1 less in
+        cc
+front_taken f xs new (Some b) o g n len items some is first = rw (is, first, items) refl

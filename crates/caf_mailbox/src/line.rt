@@ -7,11 +7,15 @@ ghost use Rattle.caf_message.specs.Lists.{pick};
 ghost use Rattle.caf_mailbox.specs.Arrived.{arrived, all_arrived, at_arrived};
 ghost use Rattle.caf_mailbox.specs.Line.{numbered, in_line, IsSorted, IsUpTo, HasRoom, HasSameItems, HasNoPlaces, KeepsBounds};
 ghost use Rattle.caf_mailbox.specs.Places.{place_for, BeginsWith, IsTally};
+ghost use Rattle.caf_mailbox.specs.Responses.{no_responses};
+ghost use Rattle.std.specs.Bool.{OnTrue};
 ghost use Rattle.caf_mailbox.specs.Passed.{NonePass};
 
 use crate::Eligible;
 use crate::class::{Class, class_of};
-use crate::queue::{Numbered, first_class, first_content, first_from, number_of, put, take_at};
+use crate::queue::{
+    Numbered, first_class, first_content, first_from, number_of, put, take_at, take_content,
+};
 use crate::responses::Responses;
 use crate::search::take_eligible;
 use crate::tally::Tally;
@@ -103,6 +107,37 @@ pub(crate) fn take_next<E: Eligible>(
 
 /// Takes out the first eligible envelope among those with a number.
 fn take_numbered<E: Eligible>(line: &mut Line, test: &E, passed: &mut usize) -> Option<Numbered>
+    requires sorted { IsSorted line.old }
+    requires places { HasNoPlaces line.old }
+    requires passed { NonePass (at_arrived (E.test test.now)) (all_arrived line.old.contents.items) passed.old }
+    ensures taken { option_map (λ one. (arrived one, numbered line.new)) result ≡ pick (at_arrived (E.test test.now)) (numbered line.old) }
+    ensures kept { IfNone result (numbered line.new ≡ numbered line.old) }
+    ensures late { line.new.late ≡ line.old.late }
+    ensures sorted { IsSorted line.new }
+    ensures up_to { KeepsBounds line.old line.new }
+    ensures places { HasNoPlaces line.new }
+    ensures passed { NonePass (at_arrived (E.test test.now)) (all_arrived line.new.contents.items) passed.new }
+    ensures within { passed.new ≤ length line.new.contents.items }
+{
+    // Mostly contents alone are there.
+    if has_contents_alone(line) {
+        return take_content(&mut line.contents, test, passed);
+    }
+    take_of_classes(line, test, passed)
+}
+
+/// Whether there is neither a notice nor a response.
+fn has_contents_alone(line: &Line) -> bool
+    ensures { OnTrue result ((line.now.notices.items ≡ []) × (line.now.responses ≡ no_responses)) }
+{
+    if line.notices.is_empty() {
+        return line.responses.is_empty();
+    }
+    false
+}
+
+/// The same, where all three queues are looked through.
+fn take_of_classes<E: Eligible>(line: &mut Line, test: &E, passed: &mut usize) -> Option<Numbered>
     requires sorted { IsSorted line.old }
     requires places { HasNoPlaces line.old }
     requires passed { NonePass (at_arrived (E.test test.now)) (all_arrived line.old.contents.items) passed.old }

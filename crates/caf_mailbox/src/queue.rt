@@ -1,9 +1,10 @@
 //! One queue of a line: the envelopes of one class.
-ghost use Rattle.std.specs.Prelude.{◌≡◌, ◌+◌, ◌<◌, ◌≤◌, ◌∷◌, [], ◌++◌, true, IfNone, IfSome};
+ghost use Rattle.std.specs.Prelude.{◌≡◌, ◌+◌, ◌<◌, ◌≤◌, ◌∷◌, [], ◌++◌, true, length, IfNone, IfSome};
 ghost use Rattle.std.specs.List.{AllByRecursion};
 ghost use Rattle.std.specs.Option.{option_map};
 ghost use Rattle.std.specs.VecDeque.{deque_len, deque_capacity};
 ghost use Rattle.caf_message.specs.Envelope.{plain_envelope, is_content};
+ghost use Rattle.caf_message.specs.Lists.{pick};
 ghost use Rattle.caf_mailbox.specs.Arrived.{arrived, all_arrived, at_arrived};
 ghost use Rattle.caf_mailbox.specs.Line.{taken_where, IsFound};
 ghost use Rattle.caf_mailbox.specs.Line as line;
@@ -99,9 +100,31 @@ pub(crate) fn take_at(queue: &mut VecDeque<Numbered>, found: Option<Found>) -> O
     ensures kept { IfNone result (all_arrived queue.new.items ≡ all_arrived queue.old.items) }
 {
     match found {
-        Some(found) => queue.remove(found.position),
+        Some(found) => {
+            if found.position == 0 {
+                return queue.pop_front();
+            }
+            queue.remove(found.position)
+        }
         None => None,
     }
+}
+
+/// Takes out the first eligible content, with `passed` as in the search.
+pub(crate) fn take_content<E: Eligible>(
+    queue: &mut VecDeque<Numbered>,
+    test: &E,
+    passed: &mut usize,
+) -> Option<Numbered>
+    requires class { AllByRecursion (λ z. is_content z.1 ≡ true) (all_arrived queue.old.items) }
+    requires passed { NonePass (at_arrived (E.test test.now)) (all_arrived queue.old.items) passed.old }
+    ensures taken { option_map (λ one. (arrived one, all_arrived queue.new.items)) result ≡ pick (at_arrived (E.test test.now)) (all_arrived queue.old.items) }
+    ensures kept { IfNone result (all_arrived queue.new.items ≡ all_arrived queue.old.items) }
+    ensures passed { NonePass (at_arrived (E.test test.now)) (all_arrived queue.new.items) passed.new }
+    ensures within { passed.new ≤ length queue.new.items }
+{
+    let found = first_content(queue, test, passed);
+    take_at(queue, found)
 }
 
 /// The number of arrival of the one that was found, if one was.
