@@ -1,7 +1,6 @@
 -- One of the two lists: the numbered envelopes of all classes, and the late ones.
 use Rattle.std.proofs.Common.{◌≡◌, ◌∙◌, ℕ, zero, suc, ◌<◌, ◌≤◌, Bool, true, false, List, [], ◌∷◌, ◌++◌, length, map, Option, Some, None, IfNone, IfSome, refl, sym, ap, subst, arith, if◌then◌else◌}
-use Rattle.std.specs.Prelude.{◌↔◌, nat_le, filter, slice_get, remove, IsSome}
-use Rattle.std.specs.Option.{option_to_list}
+use Rattle.std.specs.Prelude.{nat_le, filter, slice_get, remove}
 use Rattle.std.specs.List.{AllByRecursion}
 use Rattle.std.specs.Option.{option_map}
 use Rattle.caf_message.specs.declared.envelope.Plain.{Plain}
@@ -429,17 +428,3 @@ module _ (test : Taken → Bool) (l : Line) (one : l.notices.items ≡ []) (two 
       by : (r : Option B) → IfNone r (left ≡ all_arrived l.contents.items) → IfNone r (woven (all_arrived l.notices.items) (woven l.responses.here left) ≡ numbered l)
       by None e = ap (λ (zs : List Arrived). woven (all_arrived l.notices.items) (woven l.responses.here zs)) e
       by (Some b) e = tt
-
--- the first one of a queue leaves
-pub front_taken : {B : Type 0} (f : B → Arrived) (xs new : List B) (res : Option B) (o : Option Found) (g : Found) (n : ℕ) → n ≡ length xs → xs ≡ option_to_list res ++ new → (IsSome res ↔ (0 < n)) → o ≡ Some g → g.position ≡ 0
-    → option_map (λ b. (f b, map f new)) res ≡ taken_where (map f xs) o
-front_taken f xs new None o g n len items some is first = by xs refl
-  where
-    by : (ys : List B) → xs ≡ ys → None ≡ taken_where (map f xs) o
-    by [] e = rw (e, is, first) refl
-    by (y ∷ ys) e =
-        let size : length xs ≡ suc (length ys) = ap length e in
-        let less : 0 < n = omega arith in
-        let wrong : false ≡ true = some.1 less in
-        cc
-front_taken f xs new (Some b) o g n len items some is first = rw (is, first, items) refl

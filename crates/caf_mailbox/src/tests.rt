@@ -299,6 +299,36 @@ fn an_awaited_response_is_found_behind_others_and_no_content_is_looked_at(
 }
 
 #[test]
+fn awaited_responses_are_found_in_another_order(rt: HostRuntime) -> Result<(), Fail> {
+    let alloc = rt.alloc();
+    let mut caches = Caches::new(alloc);
+    let kinds = [
+        Kind::Reply(1),
+        Kind::Reply(2),
+        Kind::Content,
+        Kind::Reply(3),
+        Kind::Failure(2),
+    ];
+    add_kinds(&mut caches, alloc, &kinds)?;
+    let rows = [
+        (3, Some(3)),
+        (2, Some(1)),
+        (2, Some(4)),
+        (2, None),
+        (9, None),
+        (1, Some(0)),
+        (1, None),
+    ];
+    for (number, seq) in rows {
+        let awaited = counting(Awaited::Only(number), false, 0);
+        assert_eq!(rt; seq_of(caches.next(&awaited)), seq, "for number {number}");
+    }
+    assert_eq!(rt; next_any(&mut caches), Some(2));
+    assert_eq!(rt; next_any(&mut caches), None);
+    Ok(())
+}
+
+#[test]
 fn a_content_that_is_passed_is_looked_at_once(rt: HostRuntime) -> Result<(), Fail> {
     let alloc = rt.alloc();
     let mut caches = Caches::new(alloc);
