@@ -8,3 +8,8 @@ pub mod EntryLemmas
 pub mod OccurrenceLemmas
 pub mod PlainIndexLemmas
 pub mod WordExamples
+pub mod ChunkLemmas
+pub mod SortedOnceLemmas
+pub mod PostingLemmas
+pub mod ChunkExamples
+pub mod PostingExamples

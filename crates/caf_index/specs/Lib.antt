@@ -1,4 +1,6 @@
 pub mod Words
+pub mod Chunks
+pub mod Postings
 pub mod Index
 pub mod PlainIndex
 pub mod IndexText

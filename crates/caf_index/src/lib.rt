@@ -8,14 +8,18 @@
 //! [`index_text`] its text.
 #![tactic(auto)]
 
+mod chunk;
 mod index;
 mod number_map;
 mod plain;
+mod posting;
 #[cfg(test)]
 mod tests;
 mod text;
 mod words;
 
+pub use chunk::{Chunk, chunks};
 pub use index::Index;
 pub use plain::plain_index;
+pub use posting::{Posting, postings};
 pub use text::index_text;

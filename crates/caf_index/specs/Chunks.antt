@@ -1,0 +1,46 @@
+-- The chunks of a file: whole lines, as many as go into 16,384 bytes, or one that is longer.
+use Rattle.std.specs.Prelude.{ℕ, zero, suc, ◌+◌, ◌-◌, nat_le, if◌then◌else◌, List, [], ◌∷◌, length, take, drop, sum_by}
+use Rattle.caf_index.specs.Words.{is_line_end}
+use Rattle.caf_index.specs.declared.chunk.Chunk.{Chunk}
+
+-- a byte before the first of some lines
+abbrev pub before_lines : ℕ → List (List ℕ) → List (List ℕ)
+before_lines byte [] = (byte ∷ []) ∷ []
+before_lines byte (line ∷ lines) = (byte ∷ line) ∷ lines
+
+-- the lines of a file, each with the byte 10 that ends it, which the last need not have
+abbrev pub lines_of : List ℕ → List (List ℕ)
+lines_of [] = []
+lines_of (byte ∷ bytes) = if is_line_end byte then (byte ∷ []) ∷ lines_of bytes else before_lines byte (lines_of bytes)
+
+-- the first of them
+abbrev pub first_line : List ℕ → List ℕ
+first_line [] = []
+first_line (byte ∷ bytes) = if is_line_end byte then byte ∷ [] else byte ∷ first_line bytes
+
+-- how many bytes the lines have together
+abbrev pub size_of : List (List ℕ) → ℕ
+size_of lines = sum_by length lines
+
+-- how many of the lines, from the first on, go into a chunk that has that many bytes already
+abbrev pub lines_after : ℕ → List (List ℕ) → ℕ
+lines_after size [] = 0
+lines_after size (line ∷ lines) = if nat_le (size + length line) 16384 then suc (lines_after (size + length line) lines) else 0
+
+-- The chunks that begin in the lines, of which the first has that number and begins at that offset,
+-- and the first `inside` go into a chunk that began before them. At each line that is in no chunk
+-- yet a chunk begins: it has that line, and those after it that go into it.
+abbrev pub chunks_within : ℕ → ℕ → ℕ → List (List ℕ) → List Chunk
+chunks_within inside number from [] = []
+chunks_within (suc inside) number from (line ∷ lines) = chunks_within inside (number + 1) (from + length line) lines
+chunks_within zero number from (line ∷ lines) =
+    record { line = number; from = from; to = from + length line + size_of (take (lines_after (length line) lines) lines) }
+    ∷ chunks_within (lines_after (length line) lines) (number + 1) (from + length line) lines
+
+-- the chunks of a file
+abbrev pub chunks_of : List ℕ → List Chunk
+chunks_of bytes = chunks_within 0 1 0 (lines_of bytes)
+
+-- the bytes of a chunk, in its file
+abbrev pub chunk_bytes : List ℕ → Chunk → List ℕ
+chunk_bytes bytes chunk = take (chunk.to - chunk.from) (drop chunk.from bytes)
