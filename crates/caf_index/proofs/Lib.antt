@@ -13,3 +13,8 @@ pub mod SortedOnceLemmas
 pub mod PostingLemmas
 pub mod ChunkExamples
 pub mod PostingExamples
+pub mod ChunkLawLemmas
+pub mod WholeLinesLemmas
+pub mod ContainsLemmas
+pub mod ChunkPostingsLemmas
+pub mod FilledLemmas

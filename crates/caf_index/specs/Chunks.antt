@@ -1,6 +1,6 @@
 -- The chunks of a file: whole lines, as many as go into 16,384 bytes, or one that is longer.
-use Rattle.std.specs.Prelude.{ℕ, zero, suc, ◌+◌, ◌-◌, nat_le, if◌then◌else◌, List, [], ◌∷◌, length, take, drop, sum_by}
-use Rattle.caf_index.specs.Words.{is_line_end}
+use Rattle.std.specs.Prelude.{◌≡◌, ℕ, zero, suc, ◌+◌, ◌-◌, ◌<◌, ◌≤◌, nat_le, false, if◌then◌else◌, List, [], ◌∷◌, length, take, drop, flat_map, sum_by, count_by, slice_index, All, ◌⊎◌}
+use Rattle.caf_index.specs.Words.{is_line_end, words_within, words_of}
 use Rattle.caf_index.specs.declared.chunk.Chunk.{Chunk}
 
 -- a byte before the first of some lines
@@ -44,3 +44,26 @@ chunks_of bytes = chunks_within 0 1 0 (lines_of bytes)
 -- the bytes of a chunk, in its file
 abbrev pub chunk_bytes : List ℕ → Chunk → List ℕ
 chunk_bytes bytes chunk = take (chunk.to - chunk.from) (drop chunk.from bytes)
+
+-- ---- what is said of them
+
+-- joined, they are the file
+abbrev pub ChunksJoin : Type 0
+ChunksJoin = (bytes : List ℕ) → flat_map (chunk_bytes bytes) (chunks_of bytes) ≡ bytes
+
+-- a chunk has bytes, begins where the file does or behind a line end, in the line of its number, and
+-- ends behind a line end or where the file does
+pub record IsWholeLines (bytes : List ℕ) (chunk : Chunk) : Type 0 where
+  pub some : chunk.from < chunk.to
+  pub within : chunk.to ≤ length bytes
+  pub begins : (chunk.from ≡ 0) ⊎ (slice_index bytes (chunk.from - 1) ≡ 10)
+  pub number : chunk.line ≡ 1 + count_by is_line_end (take chunk.from bytes)
+  pub ends : (chunk.to ≡ length bytes) ⊎ (slice_index bytes (chunk.to - 1) ≡ 10)
+
+abbrev pub ChunksAreWholeLines : Type 0
+ChunksAreWholeLines = (bytes : List ℕ) → All (IsWholeLines bytes) (chunks_of bytes)
+
+-- the words of all chunks, each with its line, counted from the number of the chunk's first, are those
+-- of the file
+abbrev pub ChunksKeepWords : Type 0
+ChunksKeepWords = (bytes : List ℕ) → flat_map (λ chunk. words_within false chunk.line (chunk_bytes bytes chunk)) (chunks_of bytes) ≡ words_of bytes

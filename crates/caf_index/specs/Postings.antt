@@ -1,10 +1,12 @@
 -- The postings of bytes: which word stands in which line, by word, then by line, each pair once.
-use Rattle.std.specs.Prelude.{ℕ, ◌-◌, ◌^◌, min, false, List, [], ◌∷◌, map}
+use Rattle.std.specs.Prelude.{ℕ, ◌-◌, ◌^◌, ◌<◌, ◌↔◌, ◌≡◌, min, false, List, [], ◌∷◌, length, map, Contains}
 use Rattle.std.specs.Ordering.{nat_cmp, ordering_then}
 use Rattle.std.specs.declared.cmp.Ordering.{Ordering}
 use Rattle.std.specs.Cmp.Lexicographic.{slice_cmp}
 use Rattle.std.specs.FinMap.Entries.{by_order}
-use Rattle.caf_index.specs.Words.{words_within}
+use Rattle.caf_index.specs.Words.{lower_case, words_within, StandsWithin, StandsIn}
+use Rattle.caf_index.specs.Chunks.{chunks_of, chunk_bytes}
+use Rattle.caf_index.specs.declared.chunk.Chunk.{Chunk}
 use Rattle.caf_index.specs.declared.posting.Posting.{Posting}
 
 -- that the word stands in that line
@@ -36,3 +38,25 @@ sorted_once cmp (key ∷ keys) = put_once cmp key (sorted_once cmp keys)
 -- the postings of bytes whose first line has that number
 abbrev pub postings_of : ℕ → List ℕ → List Posting
 postings_of line bytes = sorted_once posting_cmp (words_from line bytes)
+
+-- the posting's word stands in the bytes, whose first line has that number, in the line of its number
+pub record IsPostingOf (first : ℕ) (bytes : List ℕ) (posting : Posting) : Type 0 where
+  pub line : ℕ
+  pub stands : StandsWithin false first bytes posting.word line
+  pub stopped : posting.line ≡ min line (2 ^ 64 - 1)
+
+-- ---- what is said of them
+
+-- bytes in lower case have the postings that the bytes have
+abbrev pub LowerCaseKeepsPostings : Type 0
+LowerCaseKeepsPostings = (line : ℕ) (bytes : List ℕ) → postings_of line (map lower_case bytes) ≡ postings_of line bytes
+
+-- the posting is one of a chunk of the file, counted from the number of the chunk's first line
+pub record IsInAChunk (bytes : List ℕ) (posting : Posting) : Type 0 where
+  pub chunk : Chunk
+  pub is_chunk : Contains (chunks_of bytes) chunk
+  pub listed : Contains (postings_of chunk.line (chunk_bytes bytes chunk)) posting
+
+-- the postings of the chunks of a file say which word stands in which line of it
+abbrev pub ChunkPostingsAreThePlainOnes : Type 0
+ChunkPostingsAreThePlainOnes = (bytes word : List ℕ) (line : ℕ) → length bytes < 2 ^ 64 → IsInAChunk bytes (posting_at word line) ↔ StandsIn bytes word line

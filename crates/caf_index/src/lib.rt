@@ -10,6 +10,7 @@
 
 mod chunk;
 mod index;
+pub mod laws;
 mod number_map;
 mod plain;
 mod posting;
