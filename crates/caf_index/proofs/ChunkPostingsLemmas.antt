@@ -11,10 +11,10 @@ use Rattle.std.proofs.lemmas.Cmp.{on_equiv, and_equiv, eq_by_cmp_equiv}
 use Rattle.std.proofs.lemmas.Map.Views.{list_any-from_Contains, Contains-from_any}
 use Rattle.std.proofs.lemmas.List.{length-append}
 use Rattle.std.proofs.lemmas.List.Sums.{count_by-le-length}
-use Rattle.caf_index.specs.Words.{is_line_end, StandsIn, words_within, words_of}
+use Rattle.caf_index.specs.Words.{is_line_end, StandsWithin, StandsIn, words_within, words_of}
 use Rattle.caf_index.specs.Chunks.{chunks_of, chunk_bytes}
 use Rattle.caf_index.specs.declared.chunk.Chunk.{Chunk}
-use Rattle.caf_index.specs.Postings.{posting_at, stopped, words_from, posting_cmp, sorted_once, postings_of, IsInAChunk}
+use Rattle.caf_index.specs.Postings.{posting_at, stopped, words_from, posting_cmp, sorted_once, postings_of, IsPostingOf, IsInAChunk}
 use Rattle.caf_index.specs.declared.posting.Posting.{Posting}
 use Rattle.caf_index.proofs.EntryLemmas.{same_number, same_word, number_from, word_from}
 use Rattle.caf_index.proofs.OccurrenceLemmas.{stands_from_listed, listed_from_stands, left_true, right_true}
@@ -53,13 +53,28 @@ pairs-equiv : IsEquivalence same_pair
 unfolding same_pair
 pairs-equiv = and_equiv (on_equiv (λ (p : List ℕ × ℕ). p.0) (eq_by_cmp_equiv nat_list_cmp_total)) (on_equiv (λ (p : List ℕ × ℕ). p.1) (eq_by_cmp_equiv nat_cmp_total))
 
-stands-from : (bytes word : List ℕ) (line : ℕ) → Contains (words_of bytes) (word, line) → StandsIn bytes word line
+stands-from : (first : ℕ) (bytes word : List ℕ) (line : ℕ) → Contains (words_within false first bytes) (word, line) → StandsWithin false first bytes word line
 unfolding same_pair
-stands-from bytes word line has = stands_from_listed false 1 bytes word line (list_any-from_Contains pairs-equiv (word, line) (words_of bytes) has)
+stands-from first bytes word line has = stands_from_listed false first bytes word line (list_any-from_Contains pairs-equiv (word, line) (words_within false first bytes) has)
 
-from-stands : (bytes word : List ℕ) (line : ℕ) → StandsIn bytes word line → Contains (words_of bytes) (word, line)
+from-stands : (first : ℕ) (bytes word : List ℕ) (line : ℕ) → StandsWithin false first bytes word line → Contains (words_within false first bytes) (word, line)
 unfolding same_pair
-from-stands bytes word line stands = Contains-from_any {eq = same_pair} pairs-apart (word, line) (words_of bytes) (listed_from_stands false 1 bytes word line stands)
+from-stands first bytes word line stands = Contains-from_any {eq = same_pair} pairs-apart (word, line) (words_within false first bytes) (listed_from_stands false first bytes word line stands)
+
+-- the postings of bytes are exactly those of the words that stand in them
+pub postings-exact : (first : ℕ) (bytes : List ℕ) (posting : Posting) → Contains (postings_of first bytes) posting ↔ IsPostingOf first bytes posting
+postings-exact first bytes posting = (
+  (λ has.
+      let read = from-map stopped posting (words_within false first bytes) (words-from first bytes posting has) in
+      record {
+        line = read.0.1;
+        stands = subst (λ w. StandsWithin false first bytes w read.0.1) (ap (λ (p : Posting). p.word) read.2) (stands-from first bytes read.0.0 read.0.1 read.1);
+        stopped = sym (ap (λ (p : Posting). p.line) read.2);
+      }),
+  (λ is. postings-from first bytes posting
+      (subst (λ n. Contains (words_from first bytes) (posting_at posting.word n)) (sym is.stopped)
+      (contains-map stopped (posting.word, is.line) (words_within false first bytes) (from-stands first bytes posting.word is.line is.stands)))),
+)
 
 -- a word stands in no line past the number of bytes
 line-small : (bytes word : List ℕ) (line : ℕ) → StandsIn bytes word line → line ≤ length bytes
@@ -79,7 +94,7 @@ stands-in : (bytes word : List ℕ) (line : ℕ) → length bytes < 2 ^ 64 → I
 stands-in bytes word line small is =
     let read = from-map stopped (posting_at word line) (words_in bytes is.chunk) (words-from is.chunk.line (chunk_bytes bytes is.chunk) (posting_at word line) is.listed) in
     let here = contains-flat (words_in bytes) is.chunk read.0 (chunks_of bytes) is.is_chunk read.1 in
-    let stands = stands-from bytes read.0.0 read.0.1 (subst (λ ws. Contains ws read.0) (chunks-keep bytes) here) in
+    let stands = stands-from 1 bytes read.0.0 read.0.1 (subst (λ ws. Contains ws read.0) (chunks-keep bytes) here) in
     let fits : read.0.1 ≤ length bytes = line-small bytes read.0.0 read.0.1 stands in
     let stops : min read.0.1 (2 ^ 64 - 1) ≡ line = ap (λ (p : Posting). p.line) read.2 in
     let same : read.0.1 ≡ line = omega (arith, fits, small, stops) in
@@ -89,7 +104,7 @@ in-a-chunk : (bytes word : List ℕ) (line : ℕ) → length bytes < 2 ^ 64 → 
 in-a-chunk bytes word line small stands =
     let fits : line ≤ length bytes = line-small bytes word line stands in
     let stops : min line (2 ^ 64 - 1) ≡ line = omega (arith, fits, small) in
-    let found = from-flat (words_in bytes) (word, line) (chunks_of bytes) (subst (λ ws. Contains ws (word, line)) (sym (chunks-keep bytes)) (from-stands bytes word line stands)) in
+    let found = from-flat (words_in bytes) (word, line) (chunks_of bytes) (subst (λ ws. Contains ws (word, line)) (sym (chunks-keep bytes)) (from-stands 1 bytes word line stands)) in
     record {
       chunk = found.0;
       is_chunk = found.1;

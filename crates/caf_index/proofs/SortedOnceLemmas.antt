@@ -1,9 +1,9 @@
 -- Lists that are sorted, each key once.
 use Rattle.std.proofs.Common.{◌≡◌, Bool, true, false, cond, List, [], ◌∷◌, Option, Some, refl, sym, ap, subst, ◌∙◌}
-use Rattle.std.specs.Prelude.{T, ◌||◌, is_some, map}
+use Rattle.std.specs.Prelude.{T, ◌&&◌, ◌||◌, is_some, map}
 use Rattle.std.specs.List.{list_any, dedup, dedup_from, AllByRecursion}
 use Rattle.std.specs.List.Sorted.{IsPermutation, IsSorted, IsStrictlySortedBy}
-use Rattle.std.specs.Ordering.{is_eq, eq_by_cmp, on}
+use Rattle.std.specs.Ordering.{is_eq, is_lt, eq_by_cmp, on}
 use Rattle.std.specs.declared.cmp.Ordering.{Ordering}
 use Rattle.std.specs.declared.cmp.Ordering.TheVariants.{Less, Equal, Greater}
 use Rattle.std.specs.Cmp.{IsTotalOrder, alike_right}
@@ -11,9 +11,22 @@ use Rattle.std.proofs.lemmas.Cmp.{on_total}
 use Rattle.std.proofs.lemmas.List.Kept.{IsStrictlySortedBy-dedup}
 use Rattle.std.proofs.lemmas.List.Sorted.{IsPermutation-map, list_any-IsPermutation}
 use Rattle.std.specs.FinMap.{IsAntisymmetric}
-use Rattle.std.specs.FinMap.Entries.{put, find, is_sorted, by_order, is_sorted-put, find-put, same_entries, is_some-find}
+use Rattle.std.specs.FinMap.Entries.{put, find, is_sorted, below_all, by_order, is_sorted-put, find-put, same_entries, is_some-find}
 use Rattle.caf_index.specs.Postings.{put_once, sorted_once}
 use Rattle.caf_index.proofs.IndexLemmas.{bare, sorted-bare, keys-bare, same_unit}
+
+left : (a b : Bool) → T (a && b) → T a
+left true b h = tt
+left false b h = h
+
+right : (a b : Bool) → T (a && b) → T b
+right true b h = h
+right false b h = absurd h
+
+less : (r : Ordering) → T (is_lt r) → r ≡ Less
+less Less h = refl
+less Equal h = absurd h
+less Greater h = absurd h
 
 module _ {K : Type 0} (R : K → K → Ordering) (o : IsTotalOrder R) where
   bare-put : (key : K) (keys : List K) → bare R (put_once R key keys) ≡ put R key tt (bare R keys)
@@ -27,6 +40,19 @@ module _ {K : Type 0} (R : K → K → Ordering) (o : IsTotalOrder R) where
   sorted-once : (keys : List K) → T (is_sorted R (bare R (sorted_once R keys)))
   sorted-once [] = tt
   sorted-once (key ∷ keys) = subst (λ es. T (is_sorted R es)) (sym (bare-put key (sorted_once R keys))) (is_sorted-put R o key tt (bare R (sorted_once R keys)) (sorted-once keys))
+
+  below-strict : (key : K) (keys : List K) → T (below_all R key (bare R keys)) → AllByRecursion (λ k. R key k ≡ Less) keys
+  below-strict key [] h = tt
+  below-strict key (k ∷ keys) h = (less (R key k) (left (is_lt (R key k)) (below_all R key (bare R keys)) h), below-strict key keys (right (is_lt (R key k)) (below_all R key (bare R keys)) h))
+
+  strict-bare : (keys : List K) → T (is_sorted R (bare R keys)) → IsStrictlySortedBy R keys
+  unfolding IsStrictlySortedBy
+  strict-bare [] h = tt
+  strict-bare (k ∷ keys) h = (below-strict k keys (left (below_all R k (bare R keys)) (is_sorted R (bare R keys)) h), strict-bare keys (right (below_all R k (bare R keys)) (is_sorted R (bare R keys)) h))
+
+  -- they are in strict order
+  pub strict-once : (keys : List K) → IsStrictlySortedBy R (sorted_once R keys)
+  strict-once keys = strict-bare (sorted_once R keys) (sorted-once keys)
 
   or_found : (b : Bool) (r : Option (Unit {0})) → is_some (cond b (Some tt) r) ≡ (b || is_some r)
   or_found true r = refl

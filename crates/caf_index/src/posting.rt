@@ -1,7 +1,8 @@
-ghost use Rattle.std.specs.Prelude.{◌≡◌, ◌↔◌, ◌++◌, ◌-◌, ◌^◌, min, false, ℕ, List, All, Contains, IsTrue, IfOk, OnOk, map as each};
+ghost use Rattle.std.specs.Prelude.{◌≡◌, ◌↔◌, ◌++◌, All, Contains, IsTrue, IfOk, OnOk, map as each};
 ghost use Rattle.std.specs.List.Sorted.{IsStrictlySortedBy};
-ghost use Rattle.caf_index.specs.Words.{is_word_byte, lower_case, StandsWithin, ended_word};
-ghost use Rattle.caf_index.specs.Postings.{posting_at, stopped, words_from, posting_cmp, postings_of};
+ghost use Rattle.caf_index.specs.Words.{is_word_byte, lower_case, ended_word};
+ghost use Rattle.caf_index.specs.Postings.{posting_at, stopped, words_from, posting_cmp, postings_of, IsPostingOf};
+ghost use Rattle.caf_index.specs.declared.posting.Posting.{Posting};
 
 use crate::words::is_word_byte;
 use caf_types::{Letters, Memory, Seq};
@@ -21,6 +22,8 @@ pub struct Posting {
 /// refusal is want of memory.
 pub fn postings(alloc: Global, line: u64, bytes: &[u8]) -> Result<Seq<Posting>, Memory>
     ensures value { IfOk result (λ postings. postings ≡ postings_of line bytes.now) }
+    ensures sorted { IfOk result (λ postings. IsStrictlySortedBy posting_cmp postings) }
+    ensures exact { IfOk result (λ postings. (posting : Posting) → Contains postings posting ↔ IsPostingOf line bytes.now posting) }
 {
     let text = lower_text(alloc, bytes)?;
     let mut words = words_at(alloc, line, text.as_slice())?;
