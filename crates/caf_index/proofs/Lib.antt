@@ -18,3 +18,4 @@ pub mod WholeLinesLemmas
 pub mod ContainsLemmas
 pub mod ChunkPostingsLemmas
 pub mod FilledLemmas
+pub mod LongestChunkLemmas

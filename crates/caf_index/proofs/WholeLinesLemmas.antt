@@ -96,7 +96,7 @@ whole-chunk bytes done l ls number from n is h place counted =
       ends = ends-at bytes xs (drop n ls) to is_xs lines_xs place_to (omega (arith, many));
     }
 
-all-cons : {X : Type 0} (P : X → Type 0) (x : X) (xs : List X) → P x → All P xs → All P (x ∷ xs)
+pub all-cons : {X : Type 0} (P : X → Type 0) (x : X) (xs : List X) → P x → All P xs → All P (x ∷ xs)
 all-cons P x xs h all zero d lt = h
 all-cons P x xs h all (suc k) d lt = all k d (omega arith)
 

@@ -63,6 +63,14 @@ pub record IsWholeLines (bytes : List ℕ) (chunk : Chunk) : Type 0 where
 abbrev pub ChunksAreWholeLines : Type 0
 ChunksAreWholeLines = (bytes : List ℕ) → All (IsWholeLines bytes) (chunks_of bytes)
 
+-- a chunk has at most 16,384 bytes or is one line, and with the next line it would have more
+pub record IsLongest (bytes : List ℕ) (chunk : Chunk) : Type 0 where
+  pub fits : (chunk.to - chunk.from ≤ 16384) ⊎ (chunk_bytes bytes chunk ≡ first_line (drop chunk.from bytes))
+  pub full : chunk.to < length bytes → 16384 < chunk.to - chunk.from + length (first_line (drop chunk.to bytes))
+
+abbrev pub ChunksAreLongest : Type 0
+ChunksAreLongest = (bytes : List ℕ) → All (IsLongest bytes) (chunks_of bytes)
+
 -- the words of all chunks, each with its line, counted from the number of the chunk's first, are those
 -- of the file
 abbrev pub ChunksKeepWords : Type 0

@@ -1,5 +1,5 @@
 //! The laws of chunks, postings and indexes. A law is the contract of a function that does nothing.
-ghost use Rattle.caf_index.specs.Chunks.{ChunksJoin, ChunksAreWholeLines, ChunksKeepWords};
+ghost use Rattle.caf_index.specs.Chunks.{ChunksJoin, ChunksAreWholeLines, ChunksAreLongest, ChunksKeepWords};
 ghost use Rattle.caf_index.specs.Postings.{LowerCaseKeepsPostings, ChunkPostingsAreThePlainOnes};
 ghost use Rattle.caf_index.specs.Filled.{SameEntriesSameIndex, FilledIsPlain, FilledTextIsPlain, PostingsFillThePlainIndex};
 
@@ -12,6 +12,11 @@ pub fn chunks_join()
 /// number, and ends behind a line end or where the file does.
 pub fn chunks_are_whole_lines()
     ensures { ChunksAreWholeLines }
+{}
+
+/// Each chunk has at most 16,384 bytes or is one line; with the line behind it, it would have more.
+pub fn chunks_are_longest()
+    ensures { ChunksAreLongest }
 {}
 
 /// The words of all chunks, each with its line, counted from the number of its chunk's first line, are
