@@ -1,5 +1,5 @@
 -- Lines and chunks of files, computed.
-use Rattle.std.proofs.Common.{◌≡◌, ℕ, suc, ◌<◌, List, [], ◌∷◌, ◌++◌, length, take, zero, false, refl, ap, ◌∙◌, arith, append-nil}
+use Rattle.std.proofs.Common.{◌≡◌, ℕ, suc, List, [], ◌∷◌, ◌++◌, length, take, false, refl, ap, ◌∙◌, arith}
 use Rattle.std.specs.Prelude.{codes, All, if◌then◌else◌, nat_le, ◌+◌}
 use Rattle.caf_index.specs.Words.{is_line_end}
 use Rattle.caf_index.specs.Chunks.{before_lines, lines_of, size_of, lines_after, chunks_within, chunks_of}

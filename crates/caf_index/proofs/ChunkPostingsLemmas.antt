@@ -1,20 +1,19 @@
 -- The postings of the chunks of a file are where its words stand.
 use Rattle.std.proofs.Common.{◌≡◌, ℕ, ◌+◌, ◌-◌, ◌^◌, min, ◌<◌, ◌≤◌, Bool, true, false, List, ◌++◌, length, refl, sym, ap, subst, ◌∙◌, arith}
-use Rattle.std.specs.Prelude.{◌↔◌, ◌&&◌, Contains, IsTrue, map, flat_map, count_by}
-use Rattle.std.specs.List.{list_any}
-use Rattle.std.specs.Ordering.{is_eq, eq_by_cmp, nat_cmp, on, eq_of_both}
+use Rattle.std.specs.Prelude.{◌↔◌, ◌&&◌, Contains, count_by}
+use Rattle.std.specs.Ordering.{is_eq, eq_by_cmp}
 use Rattle.std.specs.declared.cmp.Ordering.{Ordering}
 use Rattle.std.specs.declared.cmp.Ordering.TheVariants.{Less, Equal, Greater}
 use Rattle.std.specs.Cmp.{IsEquivalence, nat_cmp_total}
-use Rattle.std.specs.Cmp.Lexicographic.{slice_cmp, nat_list_cmp_total}
+use Rattle.std.specs.Cmp.Lexicographic.{nat_list_cmp_total}
 use Rattle.std.proofs.lemmas.Cmp.{on_equiv, and_equiv, eq_by_cmp_equiv}
 use Rattle.std.proofs.lemmas.Map.Views.{list_any-from_Contains, Contains-from_any}
 use Rattle.std.proofs.lemmas.List.{length-append}
 use Rattle.std.proofs.lemmas.List.Sums.{count_by-le-length}
-use Rattle.caf_index.specs.Words.{is_line_end, StandsWithin, StandsIn, words_within, words_of}
+use Rattle.caf_index.specs.Words.{is_line_end, StandsWithin, StandsIn, words_within}
 use Rattle.caf_index.specs.Chunks.{chunks_of, chunk_bytes}
 use Rattle.caf_index.specs.declared.chunk.Chunk.{Chunk}
-use Rattle.caf_index.specs.Postings.{posting_at, stopped, words_from, posting_cmp, sorted_once, postings_of, IsPostingOf, IsInAChunk}
+use Rattle.caf_index.specs.Postings.{posting_at, stopped, words_from, posting_cmp, postings_of, IsPostingOf, IsInAChunk}
 use Rattle.caf_index.specs.declared.posting.Posting.{Posting}
 use Rattle.caf_index.proofs.EntryLemmas.{same_number, same_word, number_from, word_from}
 use Rattle.caf_index.proofs.OccurrenceLemmas.{stands_from_listed, listed_from_stands, left_true, right_true}

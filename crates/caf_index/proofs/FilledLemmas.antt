@@ -1,15 +1,15 @@
 -- Indexes that are filled with the same entries.
-use Rattle.std.proofs.Common.{◌≡◌, ℕ, zero, suc, ◌+◌, ◌-◌, ◌^◌, ◌<◌, length, arith, Bool, true, false, cond, List, [], ◌∷◌, Option, Some, None, inl, inr, refl, sym, ap, subst, ◌∙◌}
-use Rattle.std.specs.Prelude.{◌↔◌, ◌&&◌, ◌||◌, IsTrue, is_some, unwrap_or, Contains, All, slice_get}
+use Rattle.std.proofs.Common.{◌≡◌, ℕ, zero, suc, ◌+◌, ◌-◌, ◌^◌, ◌<◌, length, arith, Bool, true, false, cond, List, [], ◌∷◌, Option, Some, None, refl, sym, ap, subst, ◌∙◌}
+use Rattle.std.specs.Prelude.{◌↔◌, ◌&&◌, ◌||◌, is_some, unwrap_or, Contains, All, slice_get}
 use Rattle.std.specs.List.{list_any}
-use Rattle.std.specs.Ordering.{nat_cmp, is_eq, eq_by_cmp}
+use Rattle.std.specs.Ordering.{nat_cmp}
 use Rattle.std.specs.Cmp.{IsEquivalence, nat_cmp_total, both_ways}
 use Rattle.std.specs.Cmp.Lexicographic.{slice_cmp, nat_list_cmp_total}
 use Rattle.std.proofs.lemmas.Cmp.{on_equiv, and_equiv, eq_by_cmp_equiv}
 use Rattle.std.proofs.lemmas.Map.Views.{list_any-from_Contains, Contains-from_any}
 use Rattle.std.specs.FinMap as map
 use Rattle.std.specs.FinMap.{nat_cmp-IsAntisymmetric}
-use Rattle.caf_index.specs.Index.{Entries, Files, Lines, files_of, lines_in, has_entry, HasEntry, with_line, with_entry}
+use Rattle.caf_index.specs.Index.{Entries, Files, Lines, files_of, lines_in, has_entry, with_line, with_entry}
 use Rattle.caf_index.specs.Words.{words_of}
 use Rattle.caf_index.specs.PlainIndex.{StandsInFile, with_words, with_files, plain_index_of}
 use Rattle.caf_index.specs.Filled.{Entry, with_entries, filled_with, HaveTheSame, AreThePlainOnes, IsFromAChunk}
@@ -88,6 +88,7 @@ full-with_entry index word file line full w files is = at (same_word w word) (sy
       has = contains-with_line (files_of index word) file line file line ∙ or_left _ _ (and_true _ _ (number_itself file) (number_itself line));
       each = each-with_line (files_of index word) file line (each-of index word full);
     }
+
     at : (b : Bool) → cond b (Some (with_line (files_of index word) file line)) (map.get index w) ≡ Some files → HasNoEmptyFile files
     at true e = subst HasNoEmptyFile (same_some (with_line (files_of index word) file line) files e) new
     at false e = full w files e

@@ -1,5 +1,5 @@
 -- Each chunk of a file is whole lines.
-use Rattle.std.proofs.Common.{◌≡◌, ℕ, zero, suc, ◌+◌, ◌-◌, ◌<◌, ◌≤◌, List, [], ◌∷◌, ◌++◌, length, get_or, take, drop, inl, inr, refl, sym, ap, subst, ◌∙◌, arith, append_assoc, append-nil}
+use Rattle.std.proofs.Common.{◌≡◌, ℕ, zero, suc, ◌+◌, ◌-◌, ◌<◌, List, [], ◌∷◌, ◌++◌, length, get_or, take, drop, inl, inr, refl, sym, ap, subst, ◌∙◌, arith, append_assoc, append-nil}
 use Rattle.std.specs.Prelude.{count_by, All, cond, ◌⊎◌}
 use Rattle.std.specs.List.{AllByRecursion}
 use Rattle.std.proofs.lemmas.List.{take-append-drop, length-append}
@@ -7,7 +7,6 @@ use Rattle.std.proofs.Math.Seq.{take-append_seam}
 use Rattle.std.proofs.lemmas.List.Sums.{sum_by-cons, sum_by-append}
 use Rattle.caf_index.specs.Words.{is_line_end}
 use Rattle.caf_index.specs.Chunks.{lines_of, size_of, lines_after, chunks_within, chunks_of, IsWholeLines}
-use Rattle.caf_index.specs.declared.chunk.Chunk.{Chunk}
 use Rattle.caf_index.proofs.ChunkLawLemmas.{joined, joined-none, joined-cons, joined-append, joined-lines, size-joined, IsLine, AreLines, are-lines}
 
 -- lines before a further one all have their ends

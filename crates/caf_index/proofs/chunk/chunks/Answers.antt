@@ -1,5 +1,5 @@
-use Rattle.std.proofs.Common.{◌≡◌, ◌<◌, ◌≤◌, length, ap, ◌∙◌, arith}
-use Rattle.caf_index.proofs.ChunkLemmas.{AreAll, with_end, end-some, end-fits, turn-next, turn-more, turn-begin, all-some, all-none}
+use Rattle.std.proofs.Common.{◌<◌, ◌≤◌, length, ap, ◌∙◌, arith}
+use Rattle.caf_index.proofs.ChunkLemmas.{end-some, end-fits, turn-next, turn-more, turn-begin}
 use Rattle.caf_index.specs.declared.chunk.Chunk.{Chunk}
 use Rattle.caf_index.proofs.chunk.chunks.Goals as goal
 use Rattle.caf_index.proofs.chunk.chunks.Goals.{then-current+then-end-current-gt-CHUNK_BYTES+in_ok-push, else-current, else-current-via-then-current+else-end-current-gt-CHUNK_BYTES, else-current-via-else-current}
