@@ -45,7 +45,7 @@ line_cases files file line f l true e =
     ∙ ap (λ q. same_number l line || map.contains_key (lines_in files q) l) (sym (number_from f file e))
 line_cases files file line f l false e = refl
 
-contains-with_line : (files : Files) (file line f l : ℕ) → map.contains_key (lines_in (with_line files file line) f) l ≡ ((same_number f file && same_number l line) || map.contains_key (lines_in files f) l)
+pub contains-with_line : (files : Files) (file line f l : ℕ) → map.contains_key (lines_in (with_line files file line) f) l ≡ ((same_number f file && same_number l line) || map.contains_key (lines_in files f) l)
 contains-with_line files file line f l =
     ap (λ o. map.contains_key (unwrap_or o map.empty) l) (map.get-insert nat_cmp_total files file (map.insert (lines_in files file) line tt) f)
     ∙ line_cases files file line f l (same_number f file) refl

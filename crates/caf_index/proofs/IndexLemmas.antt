@@ -61,7 +61,7 @@ module _ {Y : Type 0} where
       ∙ ap (λ (o : Option Files). cond (is_some o) (finite.len (index_of_rows rows)) (finite.len (index_of_rows rows) + 1)) absent
       ∙ (let more : finite.len (index_of_rows rows) + 1 ≡ suc (length rows) = omega (arith, rest) in more)
 
-same_unit : (a b : Option (Unit {0})) → is_some a ≡ is_some b → a ≡ b
+pub same_unit : (a b : Option (Unit {0})) → is_some a ≡ is_some b → a ≡ b
 same_unit None None e = refl
 same_unit None (Some u) e = cc
 same_unit (Some u) None e = cc
@@ -92,14 +92,14 @@ less_from_neighbours Greater s rev up differ = let lt : is_lt s ≡ true = ap is
 
 module _ {K : Type 0} (R : K → K → Ordering) where
   -- keys, as entries with nothing
-  abbrev bare : List K → List (K × Unit {0})
+  abbrev pub bare : List K → List (K × Unit {0})
   bare ks = map (λ k. (k, tt)) ks
 
   below-bare : (k : K) (ks : List K) → AllByRecursion (λ y. R k y ≡ Less) ks → T (below_all R k (bare ks))
   below-bare k [] h = tt
   below-bare k (y ∷ ks) h = both_true _ _ (subst (λ r. T (is_lt r)) (sym h.0) tt) (below-bare k ks h.1)
 
-  sorted-bare : (ks : List K) → IsStrictlySortedBy R ks → T (finite.is_sorted R (bare ks))
+  pub sorted-bare : (ks : List K) → IsStrictlySortedBy R ks → T (finite.is_sorted R (bare ks))
   sorted-bare [] h = tt
   sorted-bare (k ∷ ks) h = both_true _ _ (below-bare k ks (sorted_head R k ks h)) (sorted-bare ks (sorted_tail R k ks h))
 
@@ -111,7 +111,7 @@ module _ {K : Type 0} (R : K → K → Ordering) where
   sorted-keys [] h = tt
   sorted-keys (e ∷ es) h = both_true _ _ (below-keys e.0 es (first_true _ _ h)) (sorted-keys es (second_true _ _ h))
 
-  keys-bare : (ks : List K) → map (λ (e : K × Unit {0}). e.0) (bare ks) ≡ ks
+  pub keys-bare : (ks : List K) → map (λ (e : K × Unit {0}). e.0) (bare ks) ≡ ks
   keys-bare [] = refl
   keys-bare (k ∷ ks) = ap (λ xs. k ∷ xs) (keys-bare ks)
 

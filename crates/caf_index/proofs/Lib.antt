@@ -8,3 +8,14 @@ pub mod EntryLemmas
 pub mod OccurrenceLemmas
 pub mod PlainIndexLemmas
 pub mod WordExamples
+pub mod ChunkLemmas
+pub mod SortedOnceLemmas
+pub mod PostingLemmas
+pub mod ChunkExamples
+pub mod PostingExamples
+pub mod ChunkLawLemmas
+pub mod WholeLinesLemmas
+pub mod ContainsLemmas
+pub mod ChunkPostingsLemmas
+pub mod FilledLemmas
+pub mod LongestChunkLemmas

@@ -81,7 +81,7 @@ first_run [] = record { after = []; parts = refl; gap = refl; run = λ k d lt. a
 first_run (b ∷ bytes) = first_run_by b bytes (is_word_byte b) refl (first_run bytes)
 
 -- the line of what stands behind a byte
-line_behind : (first b : ℕ) (before : List ℕ) → next_line first b + count_by is_line_end before ≡ first + count_by is_line_end (b ∷ before)
+pub line_behind : (first b : ℕ) (before : List ℕ) → next_line first b + count_by is_line_end before ≡ first + count_by is_line_end (b ∷ before)
 line_behind first b before =
     let more : count_by is_line_end (b ∷ before) ≡ cond (is_line_end b) 1 0 + count_by is_line_end before = sum_by-cons (λ byte. cond (is_line_end byte) 1 0) b before in
     counted (is_line_end b) first (count_by is_line_end before) (count_by is_line_end (b ∷ before)) more

@@ -1,4 +1,4 @@
-use crate::{Index, index_text, plain_index};
+use crate::{Chunk, Index, chunks, index_text, plain_index, postings};
 use caf_types::{Letters, Memory, Seq};
 use std::alloc::Global;
 use std::test::Fail;
@@ -103,5 +103,100 @@ fn keeps_each_entry_once(rt: HostRuntime) -> Result<(), Fail> {
     )?;
     let want = "ant\n  B.txt: 18\ncat\n  A.txt: 9\n  B.txt: 3 4 5\n";
     assert_eq!(rt; text.as_slice(), want.as_bytes());
+    Ok(())
+}
+
+/// A file of lines with so many bytes each, line end included.
+fn file_of(alloc: Global, lines: &[usize]) -> Result<Vec<u8>, Memory> {
+    let mut bytes = Vec::new(alloc);
+    for size in lines {
+        for _ in 1..*size {
+            bytes.push(b'a')?;
+        }
+        bytes.push(b'\n')?;
+    }
+    Ok(bytes)
+}
+
+fn chunk(line: u64, from: u64, to: u64) -> Chunk {
+    Chunk { line, from, to }
+}
+
+#[test]
+fn cuts_files_into_whole_lines(rt: HostRuntime) -> Result<(), Fail> {
+    let rows: [(&[usize], &[Chunk]); 8] = [
+        (&[], &[]),
+        (&[1, 1, 1], &[chunk(1, 0, 3)]),
+        (
+            &[16_384, 2],
+            &[chunk(1, 0, 16_384), chunk(2, 16_384, 16_386)],
+        ),
+        (&[2, 16_385], &[chunk(1, 0, 2), chunk(2, 2, 16_387)]),
+        (
+            &[2, 16_382, 1],
+            &[chunk(1, 0, 16_384), chunk(3, 16_384, 16_385)],
+        ),
+        (&[2, 16_383, 1], &[chunk(1, 0, 2), chunk(2, 2, 16_386)]),
+        (
+            &[20_000, 20_000, 1],
+            &[
+                chunk(1, 0, 20_000),
+                chunk(2, 20_000, 40_000),
+                chunk(3, 40_000, 40_001),
+            ],
+        ),
+        (&[1_048_576], &[chunk(1, 0, 1_048_576)]),
+    ];
+    for (lines, want) in rows {
+        let bytes = file_of(rt.alloc(), lines)?;
+        assert_eq!(rt; chunks(rt.alloc(), bytes.as_slice())?.as_slice(), want);
+    }
+    Ok(())
+}
+
+#[test]
+fn ends_the_last_chunk_with_the_file(rt: HostRuntime) -> Result<(), Fail> {
+    let mut bytes = file_of(rt.alloc(), &[16_384, 5])?;
+    bytes.truncate(16_388);
+    let want: &[Chunk] = &[chunk(1, 0, 16_384), chunk(2, 16_384, 16_388)];
+    assert_eq!(rt; chunks(rt.alloc(), bytes.as_slice())?.as_slice(), want);
+    let want: &[Chunk] = &[chunk(1, 0, 2)];
+    assert_eq!(rt; chunks(rt.alloc(), b"ab")?.as_slice(), want);
+    Ok(())
+}
+
+/// The postings of bytes, each with its line.
+fn postings_text(alloc: Global, line: u64, bytes: &[u8]) -> Result<String, Memory> {
+    let mut text = String::new(alloc);
+    for posting in &postings(alloc, line, bytes)? {
+        text.push_str(posting.word.as_str())?;
+        write!(text, " {};", posting.line)?;
+    }
+    Ok(text)
+}
+
+#[test]
+fn lists_postings_by_word_and_line(rt: HostRuntime) -> Result<(), Fail> {
+    let rows: [(u64, &[u8], &str); 8] = [
+        (1, b"", ""),
+        (1, b" \n\t\n", ""),
+        (
+            7,
+            b"the cat\nthe Cat the\nant",
+            "ant 9;cat 7;cat 8;the 7;the 8;",
+        ),
+        (1, b"Z9 z z10\nZ\n", "z 1;z 2;z10 1;z9 1;"),
+        (0, b"b\nb\n", "b 0;b 1;"),
+        (3, b"caf\xC3\xA9s\x80S", "caf 3;s 3;"),
+        (5, b"\n\na", "a 7;"),
+        (
+            18_446_744_073_709_551_614,
+            b"a\na\na\nb",
+            "a 18446744073709551614;a 18446744073709551615;b 18446744073709551615;",
+        ),
+    ];
+    for (line, bytes, want) in rows {
+        assert_eq!(rt; postings_text(rt.alloc(), line, bytes)?.as_str(), want);
+    }
     Ok(())
 }

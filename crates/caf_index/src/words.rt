@@ -6,7 +6,7 @@ use crate::Index;
 use caf_types::Memory;
 use std::alloc::Global;
 
-fn is_word_byte(byte: u8) -> bool
+pub(crate) fn is_word_byte(byte: u8) -> bool
     ensures { result ≡ is_word_byte byte }
 {
     (b'0' <= byte && byte <= b'9')
