@@ -1,0 +1,9 @@
+pub mod CountLemmas
+pub mod WaitingLemmas
+pub mod EnvelopeLemmas
+pub mod BatchLemmas
+pub mod DueLemmas
+pub mod TotalLemmas
+pub mod RunLemmas
+pub mod StepLemmas
+pub mod LawLemmas
