@@ -7,3 +7,4 @@ pub mod TotalLemmas
 pub mod RunLemmas
 pub mod StepLemmas
 pub mod LawLemmas
+pub mod PlaceLemmas
