@@ -8,3 +8,5 @@ pub mod RunLemmas
 pub mod StepLemmas
 pub mod LawLemmas
 pub mod PlaceLemmas
+pub mod CloserLemmas
+pub mod KillLemmas

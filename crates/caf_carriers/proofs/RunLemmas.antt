@@ -126,7 +126,7 @@ module _ {S : Type 0} (valid : S → Type 0) (rules : Rules S) (stays : StaysVal
     here = subst (λ (k : ℕ). t.place < k) order.places_are may.place
 
     -- what holds of all that waits for the place holds of the batch
-    of_batch : (P : Taken → Type 0) → ((x : ℕ) → AllByRecursion P (s.waiting x t.place)) → AllByRecursion P t.batch.taken
+    pub of_batch : (P : Taken → Type 0) → ((x : ℕ) → AllByRecursion P (s.waiting x t.place)) → AllByRecursion P t.batch.taken
     of_batch P all =
         all_senders P t.batch.taken (λ x.
         let next = may.next x in
@@ -200,10 +200,10 @@ module _ {S : Type 0} (valid : S → Type 0) (rules : Rules S) (stays : StaysVal
 
     -- ---- the snapshots after it
 
-    snapshot_after : (p : ℕ) → (p == t.place) ≡ true → (take_batch (machine_of rules) s t).snapshot p ≡ (batch_of rules (s.snapshot t.place) t.batch.taken).snapshot
+    pub snapshot_after : (p : ℕ) → (p == t.place) ≡ true → (take_batch (machine_of rules) s t).snapshot p ≡ (batch_of rules (s.snapshot t.place) t.batch.taken).snapshot
     snapshot_after p q = rw q (ap (λ (x : ℕ). (batch_of rules (s.snapshot x) t.batch.taken).snapshot) (same_number p t.place q))
 
-    at_each : (P : ℕ → Snapshot S → Type 0) → P t.place (batch_of rules (s.snapshot t.place) t.batch.taken).snapshot → ((p : ℕ) → p < places → P p (s.snapshot p)) → (p : ℕ) → p < places → P p ((take_batch (machine_of rules) s t).snapshot p)
+    pub at_each : (P : ℕ → Snapshot S → Type 0) → P t.place (batch_of rules (s.snapshot t.place) t.batch.taken).snapshot → ((p : ℕ) → p < places → P p (s.snapshot p)) → (p : ℕ) → p < places → P p ((take_batch (machine_of rules) s t).snapshot p)
     at_each P mine others p less = go (p == t.place) refl
       where
         go : (b : Bool) → (p == t.place) ≡ b → P p ((take_batch (machine_of rules) s t).snapshot p)
@@ -215,7 +215,7 @@ module _ {S : Type 0} (valid : S → Type 0) (rules : Rules S) (stays : StaysVal
 
     -- ---- what waits after it
 
-    all_waiting : (P : ℕ → Taken → Type 0) → ((x b : ℕ) → AllByRecursion (P b) (s.waiting x b)) → ((b : ℕ) → AllByRecursion (P b) (to_place b (batch_of rules (s.snapshot t.place) t.batch.taken).posts))
+    pub all_waiting : (P : ℕ → Taken → Type 0) → ((x b : ℕ) → AllByRecursion (P b) (s.waiting x b)) → ((b : ℕ) → AllByRecursion (P b) (to_place b (batch_of rules (s.snapshot t.place) t.batch.taken).posts))
         → (x b : ℕ) → AllByRecursion (P b) ((take_batch (machine_of rules) s t).waiting x b)
     all_waiting P old new x b =
         all_append (P b) (without (b == t.place) (from_place x t.batch.taken) (s.waiting x b)) (when (x == t.place) (to_place b (batch_of rules (s.snapshot x) t.batch.taken).posts)) (left (b == t.place)) (news (x == t.place) refl)
