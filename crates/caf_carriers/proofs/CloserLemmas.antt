@@ -79,10 +79,10 @@ module _ {S : Type 0} (valid : S → Type 0) (rules : Rules S) (stays : StaysVal
     quits = λ s i h may. inr other;
   }
 
-  other_place : (p : ℕ) → (p == 0) ≡ false → p ≢ 0
+  pub other_place : (p : ℕ) → (p == 0) ≡ false → p ≢ 0
   other_place p e = λ here. let no : (0 == 0) ≡ false = subst (λ (x : ℕ). (x == 0) ≡ false) here e in cc
 
-  behaves_at : (p : ℕ) (b : Bool) → (p == 0) ≡ b → Behaves p (p ≢ 0) (KnownAt valid rules (start 0) b) rules
+  pub behaves_at : (p : ℕ) (b : Bool) → (p == 0) ≡ b → Behaves p (p ≢ 0) (KnownAt valid rules (start 0) b) rules
   behaves_at p true e = subst (λ (x : ℕ). Behaves x (x ≢ 0) (WasFed valid rules (start 0)) rules) (sym (same_number p 0 e)) closer_behaves
   behaves_at p false e = other_behaves p (other_place p e)
 

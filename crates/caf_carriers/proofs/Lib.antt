@@ -10,3 +10,5 @@ pub mod LawLemmas
 pub mod PlaceLemmas
 pub mod CloserLemmas
 pub mod KillLemmas
+pub mod StopLemmas
+pub mod DoomLemmas
