@@ -20,7 +20,7 @@ use Rattle.caf_actor.specs.Run.{State, Turn, Step, Take, Speak, MayTake, take_ba
 use Rattle.caf_actor.specs.Carriers.{AreFresh, IsReserved}
 use Rattle.caf_record.proofs.ListLemmas.{all_map}
 use Rattle.caf_carriers.proofs.CountLemmas.{same_number}
-use Rattle.caf_carriers.proofs.PlaceLemmas.{AvoidsZero, IsFor, GoesElsewhere, Act, Acting, Outcome, Going, Left, Behaves, a_batch}
+use Rattle.caf_carriers.proofs.PlaceLemmas.{AvoidsZero, IsFor, GoesElsewhere, Act, Acting, Outcome, Going, Left, Behaves, acts_batch}
 use Rattle.caf_carriers.proofs.RunLemmas.{InOrder, of_batch, at_each, all_waiting}
 
 -- ---- what is fed in two parts
@@ -110,7 +110,7 @@ module _ {S : Type 0} (valid : S → Type 0) (rules : Rules S) (stays : StaysVal
       go false e k = rw e k
 
   pub batch_outcome : (p : ℕ) (s : Snapshot S) (batch : List Taken) → AllByRecursion (IsFor p) batch → OutcomeAt p (so_far s []) → OutcomeAt p (batch_of rules s batch)
-  batch_outcome p s batch all h = a_batch p (p ≢ 0) (KnownAt valid rules (start 0) (p == 0)) rules (behaves_at p (p == 0) refl) (other_place p) s batch all h
+  batch_outcome p s batch all h = acts_batch p (p ≢ 0) (KnownAt valid rules (start 0) (p == 0)) rules (behaves_at p (p == 0) refl) (other_place p) s batch all h
 
   module _ (answers : AnswersRequests valid rules) (n : ℕ) (is_place : 0 < places) where
     pub closing_take : (s : State (Snapshot S)) (t : Turn) → (may : MayTake (machine_of rules) s t) → InOrder valid rules places n s → Closing s → Closing (take_batch (machine_of rules) s t)

@@ -96,7 +96,7 @@ eligible_system rules s e system = go (is_some s.quit)
     go true = refl
     go false = rw system refl
 
-none_counted : (test eligible : Taken → Bool) → ((e : Taken) → test e ≡ true → eligible e ≡ true) → (es : List Taken) → AllByRecursion (λ e. eligible e ≡ false) es → count_by test es ≡ 0
+pub none_counted : (test eligible : Taken → Bool) → ((e : Taken) → test e ≡ true → eligible e ≡ true) → (es : List Taken) → AllByRecursion (λ e. eligible e ≡ false) es → count_by test es ≡ 0
 none_counted test eligible may [] h = refl
 none_counted test eligible may (e ∷ es) h = go (test e) refl (none_counted test eligible may es h.1)
   where

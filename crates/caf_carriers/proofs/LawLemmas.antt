@@ -14,7 +14,7 @@ use Rattle.caf_actor.specs.Resolutions.{Resolution, times_resolved, times_answer
 use Rattle.caf_actor.specs.Carriers.{carries, carriers_at, carriers, waits, due_counts, IsCarried, AreFresh, end_of, resolutions_of, OneCarrier, CarrierArises, ResolvesOnce, WaitsOrIsResolved, StandsInOnePlace}
 use Rattle.caf_actor.proofs.ResolutionLemmas.{carriers_rest}
 use Rattle.caf_carriers.proofs.CountLemmas.{one, count-cons, given_most, none_given}
-use Rattle.caf_carriers.proofs.RunLemmas.{InOrder, IsCounted, arises_after}
+use Rattle.caf_carriers.proofs.RunLemmas.{InOrder, arises_after}
 use Rattle.caf_carriers.proofs.StepLemmas.{same_carriers, Kept, kept_run, order_opening, counted_opening}
 
 -- ---- waiting

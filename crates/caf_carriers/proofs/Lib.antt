@@ -12,3 +12,4 @@ pub mod CloserLemmas
 pub mod KillLemmas
 pub mod StopLemmas
 pub mod DoomLemmas
+pub mod ClosesLemmas

@@ -91,8 +91,8 @@ module _ {S : Type 0} (p : ℕ) (Quits : Type 0) (Known : S → Type 0) where
 
   -- ---- sending
 
-  a_post : (quit : Option Reason) (E : Type 0) (t : Handled S) (to : ℕ) (mid : Mid) (priority : Priority) (body : Plain) → AvoidsZero to mid body → Act quit E t → Act quit E (post t to mid priority body)
-  a_post quit E t to mid priority body avoids h = record {
+  acts_post : (quit : Option Reason) (E : Type 0) (t : Handled S) (to : ℕ) (mid : Mid) (priority : Priority) (body : Plain) → AvoidsZero to mid body → Act quit E t → Act quit E (post t to mid priority body)
+  acts_post quit E t to mid priority body avoids h = record {
     at = h.at;
     quit_is = h.quit_is;
     known = h.known;
@@ -104,21 +104,21 @@ module _ {S : Type 0} (p : ℕ) (Quits : Type 0) (Known : S → Type 0) where
     goes = all_append GoesElsewhere t.posts (posting t.snapshot to mid priority body ∷ []) h.goes (avoids, tt);
   }
 
-  a_tell : (quit : Option Reason) (E : Type 0) (t : Handled S) (to : ℕ) (priority : Priority) (words : List ℕ) → to ≢ 0 → Act quit E t → Act quit E (tell t to priority words)
-  a_tell quit E t to priority words other h = a_post quit E t to _ priority _ (λ e. other) h
+  acts_tell : (quit : Option Reason) (E : Type 0) (t : Handled S) (to : ℕ) (priority : Priority) (words : List ℕ) → to ≢ 0 → Act quit E t → Act quit E (tell t to priority words)
+  acts_tell quit E t to priority words other h = acts_post quit E t to _ priority _ (λ e. other) h
 
-  a_tell_many : (quit : Option Reason) (E : Type 0) (t : Handled S) (places : List ℕ) (priority : Priority) (words : List ℕ) → AllByRecursion (λ to. to ≢ 0) places → Act quit E t → Act quit E (tell_many t places priority words)
-  a_tell_many quit E t [] priority words others h = h
-  a_tell_many quit E t (to ∷ places) priority words others h = a_tell_many quit E (tell t to priority words) places priority words others.1 (a_tell quit E t to priority words others.0 h)
+  acts_tell_many : (quit : Option Reason) (E : Type 0) (t : Handled S) (places : List ℕ) (priority : Priority) (words : List ℕ) → AllByRecursion (λ to. to ≢ 0) places → Act quit E t → Act quit E (tell_many t places priority words)
+  acts_tell_many quit E t [] priority words others h = h
+  acts_tell_many quit E t (to ∷ places) priority words others h = acts_tell_many quit E (tell t to priority words) places priority words others.1 (acts_tell quit E t to priority words others.0 h)
 
-  a_notify : (quit : Option Reason) (E : Type 0) (t : Handled S) (to : ℕ) (what : Notice) → Act quit E t → Act quit E (notify t to what)
-  a_notify quit E t to what h = a_post quit E t to _ _ _ (λ e. cc) h
+  acts_notify : (quit : Option Reason) (E : Type 0) (t : Handled S) (to : ℕ) (what : Notice) → Act quit E t → Act quit E (notify t to what)
+  acts_notify quit E t to what h = acts_post quit E t to _ _ _ (λ e. cc) h
 
-  a_value : (quit : Option Reason) (E : Type 0) (t : Handled S) (it : Promised) (words : List ℕ) → Act quit E t → Act quit E (reply t it («plain».Content words))
-  a_value quit E t it words h = a_post quit E t _ _ _ _ (λ e. cc) h
+  acts_value : (quit : Option Reason) (E : Type 0) (t : Handled S) (it : Promised) (words : List ℕ) → Act quit E t → Act quit E (reply t it («plain».Content words))
+  acts_value quit E t it words h = acts_post quit E t _ _ _ _ (λ e. cc) h
 
-  a_error : (quit : Option Reason) (E : Type 0) (t : Handled S) (it : Promised) (what : Sec) → Act quit E t → Act quit E (reply t it («plain».Failure what))
-  a_error quit E t it what h = a_post quit E t _ _ _ _ (λ e. cc) h
+  acts_error : (quit : Option Reason) (E : Type 0) (t : Handled S) (it : Promised) (what : Sec) → Act quit E t → Act quit E (reply t it («plain».Failure what))
+  acts_error quit E t it what h = acts_post quit E t _ _ _ _ (λ e. cc) h
 
   with_holds : (t : Handled S) (holds : List Promised) → (p ≡ 0 → holds ≡ []) → Act None (p ≡ 0) t → Act None (p ≡ 0) (with_snapshot t (record t.snapshot { holds = holds }))
   with_holds t holds none h = record { at = h.at; quit_is = h.quit_is; known = h.known; begun_is = h.begun_is; listed = h.listed; undue = h.undue; held = none; later = h.later; goes = h.goes }
@@ -128,41 +128,41 @@ module _ {S : Type 0} (p : ℕ) (Quits : Type 0) (Known : S → Type 0) where
   left_holds t requester number found e h =
       with_holds t found.1 (λ here. let none : take_hold t.snapshot.holds requester number ≡ None = ap (λ hs. take_hold hs requester number) (h.held here) in let no : None ≡ Some found = sym none ∙ e in cc) h
 
-  a_settle_value : (t : Handled S) (requester number : ℕ) (words : List ℕ) (found : Option (Promised × List Promised)) → take_hold t.snapshot.holds requester number ≡ found → Act None (p ≡ 0) t
+  acts_settle_value : (t : Handled S) (requester number : ℕ) (words : List ℕ) (found : Option (Promised × List Promised)) → take_hold t.snapshot.holds requester number ≡ found → Act None (p ≡ 0) t
       → Act None (p ≡ 0) (settle_hold t found («plain».Content words))
-  a_settle_value t requester number words None e h = h
-  a_settle_value t requester number words (Some found) e h = a_value None (p ≡ 0) (with_snapshot t (record t.snapshot { holds = found.1 })) found.0 words (left_holds t requester number found e h)
+  acts_settle_value t requester number words None e h = h
+  acts_settle_value t requester number words (Some found) e h = acts_value None (p ≡ 0) (with_snapshot t (record t.snapshot { holds = found.1 })) found.0 words (left_holds t requester number found e h)
 
-  a_settle_error : (t : Handled S) (requester number : ℕ) (what : Sec) (found : Option (Promised × List Promised)) → take_hold t.snapshot.holds requester number ≡ found → Act None (p ≡ 0) t
+  acts_settle_error : (t : Handled S) (requester number : ℕ) (what : Sec) (found : Option (Promised × List Promised)) → take_hold t.snapshot.holds requester number ≡ found → Act None (p ≡ 0) t
       → Act None (p ≡ 0) (settle_hold t found («plain».Failure what))
-  a_settle_error t requester number what None e h = h
-  a_settle_error t requester number what (Some found) e h = a_error None (p ≡ 0) (with_snapshot t (record t.snapshot { holds = found.1 })) found.0 what (left_holds t requester number found e h)
+  acts_settle_error t requester number what None e h = h
+  acts_settle_error t requester number what (Some found) e h = acts_error None (p ≡ 0) (with_snapshot t (record t.snapshot { holds = found.1 })) found.0 what (left_holds t requester number found e h)
 
   -- while it hasn't quit, anything may be due
   with_due : (t : Handled S) (due : List (ℕ × ℕ)) → Act None (p ≡ 0) t → Acting None (p ≡ 0) t.snapshot.place t.snapshot.quit t.snapshot.behavior t.snapshot.has_begun t.snapshot.caches due t.snapshot.holds t.snapshot.delays t.posts
   with_due t due h = record { at = h.at; quit_is = h.quit_is; known = h.known; begun_is = h.begun_is; listed = h.listed; undue = inl h.quit_is; held = h.held; later = h.later; goes = h.goes }
 
-  a_if : (b : Bool) (t u : Handled S) → Act None (p ≡ 0) t → Act None (p ≡ 0) u → Act None (p ≡ 0) (if b then t else u)
-  a_if true t u h k = h
-  a_if false t u h k = k
+  acts_if : (b : Bool) (t u : Handled S) → Act None (p ≡ 0) t → Act None (p ≡ 0) u → Act None (p ≡ 0) (if b then t else u)
+  acts_if true t u h k = h
+  acts_if false t u h k = k
 
-  a_output : (t : Handled S) (o : PlainOutput) → AllByRecursion (λ to. to ≢ 0) (output_targets o) → Act None (p ≡ 0) t → Act None (p ≡ 0) (send_output t o)
-  a_output t (output.Tell to priority words) others h = a_tell None (p ≡ 0) t to priority words others.0 h
-  a_output t (output.TellMany places priority words) others h = a_tell_many None (p ≡ 0) t places priority words others h
-  a_output t (output.Request to priority mode tag expected words) others h =
-      a_if (may_issue t.snapshot) _ _ (a_post None (p ≡ 0) (with_snapshot t (issue t.snapshot mode tag expected)) to _ priority _ (λ e. others.0) (with_due t (issue t.snapshot mode tag expected).pending.due h)) h
-  a_output t (output.Exit to why) others h = a_notify None (p ≡ 0) t to _ h
-  a_output t (output.Link to) others h =
-      a_if (to == t.snapshot.place) _ _ h (a_notify None (p ≡ 0) (with_snapshot t (record t.snapshot { observers = with_link t.snapshot.observers to })) to _ h)
-  a_output t (output.Unlink to) others h = a_notify None (p ≡ 0) (with_snapshot t (record t.snapshot { observers = without_link t.snapshot.observers to })) to _ h
-  a_output t (output.Watch to) others h = a_if (to == t.snapshot.place) _ _ h (a_notify None (p ≡ 0) t to _ h)
-  a_output t (output.Unwatch to) others h = a_notify None (p ≡ 0) t to _ h
-  a_output t (output.Deliver requester number words) others h = a_settle_value t requester number words (take_hold t.snapshot.holds requester number) refl h
-  a_output t (output.Break requester number what) others h = a_settle_error t requester number what (take_hold t.snapshot.holds requester number) refl h
-  a_output t (output.Spawn place) others h =
-      a_if (has_place t.snapshot.unstarted place) _ _ (a_notify None (p ≡ 0) (with_snapshot t (record t.snapshot { unstarted = without_place t.snapshot.unstarted place })) place _ h) h
-  a_output t (output.Tick to) others h = a_notify None (p ≡ 0) t to _ h
-  a_output t (output.Delay ticks to priority words) others h = record {
+  acts_output : (t : Handled S) (o : PlainOutput) → AllByRecursion (λ to. to ≢ 0) (output_targets o) → Act None (p ≡ 0) t → Act None (p ≡ 0) (send_output t o)
+  acts_output t (output.Tell to priority words) others h = acts_tell None (p ≡ 0) t to priority words others.0 h
+  acts_output t (output.TellMany places priority words) others h = acts_tell_many None (p ≡ 0) t places priority words others h
+  acts_output t (output.Request to priority mode tag expected words) others h =
+      acts_if (may_issue t.snapshot) _ _ (acts_post None (p ≡ 0) (with_snapshot t (issue t.snapshot mode tag expected)) to _ priority _ (λ e. others.0) (with_due t (issue t.snapshot mode tag expected).pending.due h)) h
+  acts_output t (output.Exit to why) others h = acts_notify None (p ≡ 0) t to _ h
+  acts_output t (output.Link to) others h =
+      acts_if (to == t.snapshot.place) _ _ h (acts_notify None (p ≡ 0) (with_snapshot t (record t.snapshot { observers = with_link t.snapshot.observers to })) to _ h)
+  acts_output t (output.Unlink to) others h = acts_notify None (p ≡ 0) (with_snapshot t (record t.snapshot { observers = without_link t.snapshot.observers to })) to _ h
+  acts_output t (output.Watch to) others h = acts_if (to == t.snapshot.place) _ _ h (acts_notify None (p ≡ 0) t to _ h)
+  acts_output t (output.Unwatch to) others h = acts_notify None (p ≡ 0) t to _ h
+  acts_output t (output.Deliver requester number words) others h = acts_settle_value t requester number words (take_hold t.snapshot.holds requester number) refl h
+  acts_output t (output.Break requester number what) others h = acts_settle_error t requester number what (take_hold t.snapshot.holds requester number) refl h
+  acts_output t (output.Spawn place) others h =
+      acts_if (has_place t.snapshot.unstarted place) _ _ (acts_notify None (p ≡ 0) (with_snapshot t (record t.snapshot { unstarted = without_place t.snapshot.unstarted place })) place _ h) h
+  acts_output t (output.Tick to) others h = acts_notify None (p ≡ 0) t to _ h
+  acts_output t (output.Delay ticks to priority words) others h = record {
     at = h.at;
     quit_is = h.quit_is;
     known = h.known;
@@ -173,67 +173,67 @@ module _ {S : Type 0} (p : ℕ) (Quits : Type 0) (Known : S → Type 0) where
     later = all_put (λ (d : PlainDelay). d.to ≢ 0) t.snapshot.delays (record { due = due_after t.snapshot.clock ticks; to = to; priority = priority; content = words }) others.0 h.later;
     goes = h.goes;
   }
-  a_output t (output.Within ticks to priority mode tag expected words) others h =
-      a_if (may_issue t.snapshot) _ _ (a_post None (p ≡ 0) (with_snapshot t (issue_within t.snapshot ticks mode tag expected)) to _ priority _ (λ e. others.0) (with_due t (issue_within t.snapshot ticks mode tag expected).pending.due h)) h
+  acts_output t (output.Within ticks to priority mode tag expected words) others h =
+      acts_if (may_issue t.snapshot) _ _ (acts_post None (p ≡ 0) (with_snapshot t (issue_within t.snapshot ticks mode tag expected)) to _ priority _ (λ e. others.0) (with_due t (issue_within t.snapshot ticks mode tag expected).pending.due h)) h
 
-  a_outputs : (t : Handled S) (os : List PlainOutput) → AllByRecursion (λ o. AllByRecursion (λ to. to ≢ 0) (output_targets o)) os → Act None (p ≡ 0) t → Act None (p ≡ 0) (send_outputs t os)
-  a_outputs t [] others h = h
-  a_outputs t (o ∷ os) others h = a_outputs (send_output t o) os others.1 (a_output t o others.0 h)
+  acts_outputs : (t : Handled S) (os : List PlainOutput) → AllByRecursion (λ o. AllByRecursion (λ to. to ≢ 0) (output_targets o)) os → Act None (p ≡ 0) t → Act None (p ≡ 0) (send_outputs t os)
+  acts_outputs t [] others h = h
+  acts_outputs t (o ∷ os) others h = acts_outputs (send_output t o) os others.1 (acts_output t o others.0 h)
 
   -- ---- quitting
 
-  a_refuse : (quit : Option Reason) (E : Type 0) (t : Handled S) (origin : Origin) (what : Sec) → Act quit E t → Act quit E (refuse t origin what)
-  a_refuse quit E t origin what h = go (is_asked origin)
+  acts_refuse : (quit : Option Reason) (E : Type 0) (t : Handled S) (origin : Origin) (what : Sec) → Act quit E t → Act quit E (refuse t origin what)
+  acts_refuse quit E t origin what h = go (is_asked origin)
     where
       go : (b : Bool) → Act quit E (if b then reply t (promised_to origin) («plain».Failure what) else t)
-      go true = a_error quit E t (promised_to origin) what h
+      go true = acts_error quit E t (promised_to origin) what h
       go false = h
 
-  a_shell_notice : (quit : Option Reason) (E : Type 0) (t : Handled S) (why : Reason) (m : Notice) → Act quit E t → Act quit E (shell_notice t why m)
-  a_shell_notice quit E t why notice.Start h = h
-  a_shell_notice quit E t why notice.Stop h = h
-  a_shell_notice quit E t why (notice.Exit from reason) h = h
-  a_shell_notice quit E t why (notice.Link from) h = a_notify quit E t from _ h
-  a_shell_notice quit E t why (notice.Unlink from) h = h
-  a_shell_notice quit E t why (notice.Watch from) h = a_notify quit E t from _ h
-  a_shell_notice quit E t why (notice.Unwatch from) h = h
-  a_shell_notice quit E t why (notice.Down from reason) h = h
-  a_shell_notice quit E t why (notice.Begin from) h = h
-  a_shell_notice quit E t why (notice.Tick from) h = h
+  acts_shell_notice : (quit : Option Reason) (E : Type 0) (t : Handled S) (why : Reason) (m : Notice) → Act quit E t → Act quit E (shell_notice t why m)
+  acts_shell_notice quit E t why notice.Start h = h
+  acts_shell_notice quit E t why notice.Stop h = h
+  acts_shell_notice quit E t why (notice.Exit from reason) h = h
+  acts_shell_notice quit E t why (notice.Link from) h = acts_notify quit E t from _ h
+  acts_shell_notice quit E t why (notice.Unlink from) h = h
+  acts_shell_notice quit E t why (notice.Watch from) h = acts_notify quit E t from _ h
+  acts_shell_notice quit E t why (notice.Unwatch from) h = h
+  acts_shell_notice quit E t why (notice.Down from reason) h = h
+  acts_shell_notice quit E t why (notice.Begin from) h = h
+  acts_shell_notice quit E t why (notice.Tick from) h = h
 
-  a_shell : (quit : Option Reason) (E : Type 0) (t : Handled S) (why : Reason) (origin : Origin) (body : Plain) → Act quit E t → Act quit E (handle_shell t why origin body)
-  a_shell quit E t why origin («plain».Content words) h = go origin.mid.response
+  acts_shell : (quit : Option Reason) (E : Type 0) (t : Handled S) (why : Reason) (origin : Origin) (body : Plain) → Act quit E t → Act quit E (handle_shell t why origin body)
+  acts_shell quit E t why origin («plain».Content words) h = go origin.mid.response
     where
       go : (b : Bool) → Act quit E (if b then t else refuse t origin sec.RequestReceiverDown)
       go true = h
-      go false = a_refuse quit E t origin sec.RequestReceiverDown h
-  a_shell quit E t why origin («plain».Failure what) h = h
-  a_shell quit E t why origin («plain».System what) h = a_shell_notice quit E t why what h
+      go false = acts_refuse quit E t origin sec.RequestReceiverDown h
+  acts_shell quit E t why origin («plain».Failure what) h = h
+  acts_shell quit E t why origin («plain».System what) h = acts_shell_notice quit E t why what h
 
-  a_shell_all : (quit : Option Reason) (E : Type 0) (t : Handled S) (why : Reason) (es : List Taken) → Act quit E t → Act quit E (shell_all t why es)
-  a_shell_all quit E t why [] h = h
-  a_shell_all quit E t why (e ∷ es) h = a_shell_all quit E (handle_shell t why (origin_of e) e.body) why es (a_shell quit E t why (origin_of e) e.body h)
+  acts_shell_all : (quit : Option Reason) (E : Type 0) (t : Handled S) (why : Reason) (es : List Taken) → Act quit E t → Act quit E (shell_all t why es)
+  acts_shell_all quit E t why [] h = h
+  acts_shell_all quit E t why (e ∷ es) h = acts_shell_all quit E (handle_shell t why (origin_of e) e.body) why es (acts_shell quit E t why (origin_of e) e.body h)
 
-  a_breaks : (quit : Option Reason) (E : Type 0) (t : Handled S) (ps : List Promised) → Act quit E t → Act quit E (break_holds t ps)
-  a_breaks quit E t [] h = h
-  a_breaks quit E t (it ∷ ps) h = a_breaks quit E (reply t it («plain».Failure sec.BrokenPromise)) ps (a_error quit E t it sec.BrokenPromise h)
+  acts_breaks : (quit : Option Reason) (E : Type 0) (t : Handled S) (ps : List Promised) → Act quit E t → Act quit E (break_holds t ps)
+  acts_breaks quit E t [] h = h
+  acts_breaks quit E t (it ∷ ps) h = acts_breaks quit E (reply t it («plain».Failure sec.BrokenPromise)) ps (acts_error quit E t it sec.BrokenPromise h)
 
-  a_notify_all : (quit : Option Reason) (E : Type 0) (t : Handled S) (ns : List (ℕ × Notice)) → Act quit E t → Act quit E (notify_all t ns)
-  a_notify_all quit E t [] h = h
-  a_notify_all quit E t (m ∷ ns) h = a_notify_all quit E (notify t m.0 m.1) ns (a_notify quit E t m.0 m.1 h)
+  acts_notify_all : (quit : Option Reason) (E : Type 0) (t : Handled S) (ns : List (ℕ × Notice)) → Act quit E t → Act quit E (notify_all t ns)
+  acts_notify_all quit E t [] h = h
+  acts_notify_all quit E t (m ∷ ns) h = acts_notify_all quit E (notify t m.0 m.1) ns (acts_notify quit E t m.0 m.1 h)
 
-  a_quit_with : (t : Handled S) (why : Reason) → Act None (p ≡ 0) t → Act (Some why) (Unit {0}) (quit_with t why)
-  a_quit_with t why h =
+  acts_quit_with : (t : Handled S) (why : Reason) → Act None (p ≡ 0) t → Act (Some why) (Unit {0}) (quit_with t why)
+  acts_quit_with t why h =
       let u : Handled S = with_snapshot t (emptied t.snapshot why) in
       let start : Act (Some why) (Unit {0}) u = record { at = h.at; quit_is = refl; known = h.known; begun_is = h.begun_is; listed = (tt, tt); undue = inr refl; held = λ e. refl; later = tt; goes = h.goes } in
       let met : Handled S = shell_all (break_holds u t.snapshot.holds) why (all_cached t.snapshot.caches) in
-      a_notify_all (Some why) (Unit {0}) met (farewell met.snapshot.observers met.snapshot.place why)
-      (a_shell_all (Some why) (Unit {0}) (break_holds u t.snapshot.holds) why (all_cached t.snapshot.caches) (a_breaks (Some why) (Unit {0}) u t.snapshot.holds start))
+      acts_notify_all (Some why) (Unit {0}) met (farewell met.snapshot.observers met.snapshot.place why)
+      (acts_shell_all (Some why) (Unit {0}) (break_holds u t.snapshot.holds) why (all_cached t.snapshot.caches) (acts_breaks (Some why) (Unit {0}) u t.snapshot.holds start))
 
-  a_quit_where : (t : Handled S) (quit : Option Reason) → (quit ≡ None) ⊎ Quits → Act None (p ≡ 0) t → Outcome (quit_where t quit)
-  a_quit_where t None may h = Going h
-  a_quit_where t (Some why) (inl none) h = let wrong : Some why ≡ None = none in cc
-  a_quit_where t (Some why) (inr may) h = Left may why (a_quit_with t why h)
+  acts_quit_where : (t : Handled S) (quit : Option Reason) → (quit ≡ None) ⊎ Quits → Act None (p ≡ 0) t → Outcome (quit_where t quit)
+  acts_quit_where t None may h = Going h
+  acts_quit_where t (Some why) (inl none) h = let wrong : Some why ≡ None = none in cc
+  acts_quit_where t (Some why) (inr may) h = Left may why (acts_quit_with t why h)
 
   -- ---- reacting
 
@@ -244,40 +244,40 @@ module _ {S : Type 0} (p : ℕ) (Quits : Type 0) (Known : S → Type 0) where
     pub quits : (s : S) (i : PlainInput) → Known s → MayBeGiven rules s i → ((rules.reaction s i).quit ≡ None) ⊎ Quits
 
   module _ (rules : Rules S) (behaves : Behaves rules) (leaves : (p == 0) ≡ false → Quits) where
-    a_react : (t : Handled S) (i : PlainInput) → MayBeGiven rules t.snapshot.behavior i → Act None (p ≡ 0) t → Act None (p ≡ 0) (react rules t i)
-    a_react t i may h =
-        a_outputs (with_snapshot t (record t.snapshot { behavior = rules.next t.snapshot.behavior i })) (rules.reaction t.snapshot.behavior i).outputs (behaves.sends t.snapshot.behavior i h.known may).outputs
+    acts_react : (t : Handled S) (i : PlainInput) → MayBeGiven rules t.snapshot.behavior i → Act None (p ≡ 0) t → Act None (p ≡ 0) (react rules t i)
+    acts_react t i may h =
+        acts_outputs (with_snapshot t (record t.snapshot { behavior = rules.next t.snapshot.behavior i })) (rules.reaction t.snapshot.behavior i).outputs (behaves.sends t.snapshot.behavior i h.known may).outputs
         (record { at = h.at; quit_is = h.quit_is; known = behaves.next t.snapshot.behavior i h.known may; begun_is = h.begun_is; listed = h.listed; undue = h.undue; held = h.held; later = h.later; goes = h.goes })
 
-    a_give : (t : Handled S) (i : PlainInput) → MayBeGiven rules t.snapshot.behavior i → Act None (p ≡ 0) t → Outcome (give rules t i)
-    a_give t i may h = a_quit_where (react rules t i) (rules.reaction t.snapshot.behavior i).quit (behaves.quits t.snapshot.behavior i h.known may) (a_react t i may h)
+    acts_give : (t : Handled S) (i : PlainInput) → MayBeGiven rules t.snapshot.behavior i → Act None (p ≡ 0) t → Outcome (give rules t i)
+    acts_give t i may h = acts_quit_where (react rules t i) (rules.reaction t.snapshot.behavior i).quit (behaves.quits t.snapshot.behavior i h.known may) (acts_react t i may h)
 
-    a_answer_request : (t : Handled S) (it : Promised) (words : List ℕ) (given : PlainAnswer) → p ≢ 0 → AllByRecursion (λ to. to ≢ 0) (answer_targets given) → Act None (p ≡ 0) t → Act None (p ≡ 0) (answer_request t it words given)
-    a_answer_request t it words (answered.Value value) other targets h = a_value None (p ≡ 0) t it value h
-    a_answer_request t it words (answered.Error what) other targets h = a_error None (p ≡ 0) t it what h
-    a_answer_request t it words (answered.Delegate to) other targets h = a_post None (p ≡ 0) t to _ _ _ (λ e. targets.0) h
-    a_answer_request t it words answered.Hold other targets h = with_holds t _ (λ here. absurd (other here)) h
-    a_answer_request t it words answered.Nothing other targets h = h
+    acts_answer_request : (t : Handled S) (it : Promised) (words : List ℕ) (given : PlainAnswer) → p ≢ 0 → AllByRecursion (λ to. to ≢ 0) (answer_targets given) → Act None (p ≡ 0) t → Act None (p ≡ 0) (answer_request t it words given)
+    acts_answer_request t it words (answered.Value value) other targets h = acts_value None (p ≡ 0) t it value h
+    acts_answer_request t it words (answered.Error what) other targets h = acts_error None (p ≡ 0) t it what h
+    acts_answer_request t it words (answered.Delegate to) other targets h = acts_post None (p ≡ 0) t to _ _ _ (λ e. targets.0) h
+    acts_answer_request t it words answered.Hold other targets h = with_holds t _ (λ here. absurd (other here)) h
+    acts_answer_request t it words answered.Nothing other targets h = h
 
-    a_answer_tell : (t : Handled S) (origin : Origin) (words : List ℕ) (given : PlainAnswer) → AllByRecursion (λ to. to ≢ 0) (answer_targets given) → Act None (p ≡ 0) t → Act None (p ≡ 0) (answer_tell t origin words given)
-    a_answer_tell t origin words (answered.Value value) targets h = h
-    a_answer_tell t origin words (answered.Error what) targets h = h
-    a_answer_tell t origin words (answered.Delegate to) targets h = a_tell None (p ≡ 0) t to origin.priority words targets.0 h
-    a_answer_tell t origin words answered.Hold targets h = h
-    a_answer_tell t origin words answered.Nothing targets h = h
+    acts_answer_tell : (t : Handled S) (origin : Origin) (words : List ℕ) (given : PlainAnswer) → AllByRecursion (λ to. to ≢ 0) (answer_targets given) → Act None (p ≡ 0) t → Act None (p ≡ 0) (answer_tell t origin words given)
+    acts_answer_tell t origin words (answered.Value value) targets h = h
+    acts_answer_tell t origin words (answered.Error what) targets h = h
+    acts_answer_tell t origin words (answered.Delegate to) targets h = acts_tell None (p ≡ 0) t to origin.priority words targets.0 h
+    acts_answer_tell t origin words answered.Hold targets h = h
+    acts_answer_tell t origin words answered.Nothing targets h = h
 
-    a_answer : (t : Handled S) (origin : Origin) (words : List ℕ) (given : PlainAnswer) → p ≢ 0 → AllByRecursion (λ to. to ≢ 0) (answer_targets given) → Act None (p ≡ 0) t → Act None (p ≡ 0) (answer t origin words given)
-    a_answer t origin words given other targets h = a_if (is_asked origin) _ _ (a_answer_request t (promised_to origin) words given other targets h) (a_answer_tell t origin words given targets h)
+    acts_answer : (t : Handled S) (origin : Origin) (words : List ℕ) (given : PlainAnswer) → p ≢ 0 → AllByRecursion (λ to. to ≢ 0) (answer_targets given) → Act None (p ≡ 0) t → Act None (p ≡ 0) (answer t origin words given)
+    acts_answer t origin words given other targets h = acts_if (is_asked origin) _ _ (acts_answer_request t (promised_to origin) words given other targets h) (acts_answer_tell t origin words given targets h)
 
-    a_content : (t : Handled S) (origin : Origin) (words : List ℕ) → p ≢ 0 → Act None (p ≡ 0) t → Outcome (handle_content rules t origin words)
-    a_content t origin words other h = go (is_input (rules.interface t.snapshot.behavior) (ids_in words)) refl
+    acts_content : (t : Handled S) (origin : Origin) (words : List ℕ) → p ≢ 0 → Act None (p ≡ 0) t → Outcome (handle_content rules t origin words)
+    acts_content t origin words other h = go (is_input (rules.interface t.snapshot.behavior) (ids_in words)) refl
       where
         go : (b : Bool) → is_input (rules.interface t.snapshot.behavior) (ids_in words) ≡ b → Outcome (handle_content rules t origin words)
         go true q =
             let i : PlainInput = input.Content origin words in
-            rw q (a_quit_where (answer (react rules t i) origin words (rules.reaction t.snapshot.behavior i).answer) (rules.reaction t.snapshot.behavior i).quit (behaves.quits t.snapshot.behavior i h.known q)
-            (a_answer (react rules t i) origin words (rules.reaction t.snapshot.behavior i).answer other (behaves.sends t.snapshot.behavior i h.known q).answer (a_react t i q h)))
-        go false q = rw q (Going (a_refuse None (p ≡ 0) t origin sec.UnexpectedMessage h))
+            rw q (acts_quit_where (answer (react rules t i) origin words (rules.reaction t.snapshot.behavior i).answer) (rules.reaction t.snapshot.behavior i).quit (behaves.quits t.snapshot.behavior i h.known q)
+            (acts_answer (react rules t i) origin words (rules.reaction t.snapshot.behavior i).answer other (behaves.sends t.snapshot.behavior i h.known q).answer (acts_react t i q h)))
+        go false q = rw q (Going (acts_refuse None (p ≡ 0) t origin sec.UnexpectedMessage h))
 
     -- ---- responses and ticks
 
@@ -288,13 +288,13 @@ module _ {S : Type 0} (p : ℕ) (Quits : Type 0) (Known : S → Type 0) where
         go true e = rw e tt
         go false e = rw e tt
 
-    a_resolve : (t : Handled S) (given : Waiting → PlainInput) → ((w : Waiting) → MayBeGiven rules t.snapshot.behavior (given w)) → (found : Option (Waiting × WaitingRequests)) → Act None (p ≡ 0) t → Outcome (resolve_with rules t given found)
-    a_resolve t given may None h = Going h
-    a_resolve t given may (Some found) h = a_give (with_snapshot t (record t.snapshot { pending = found.1 })) (given found.0) (may found.0) (with_due t found.1.due h)
+    acts_resolve : (t : Handled S) (given : Waiting → PlainInput) → ((w : Waiting) → MayBeGiven rules t.snapshot.behavior (given w)) → (found : Option (Waiting × WaitingRequests)) → Act None (p ≡ 0) t → Outcome (resolve_with rules t given found)
+    acts_resolve t given may None h = Going h
+    acts_resolve t given may (Some found) h = acts_give (with_snapshot t (record t.snapshot { pending = found.1 })) (given found.0) (may found.0) (with_due t found.1.due h)
 
-    a_deliver_for : (quit : Option Reason) (E : Type 0) (k : ℕ) (t : Handled S) → Act quit E t → Act quit E (deliver_for k t)
-    a_deliver_for quit E zero t h = h
-    a_deliver_for quit E (suc k) t h = go (a_deliver_for quit E k) (next_delay t.snapshot.delays t.snapshot.clock) refl
+    acts_deliver_for : (quit : Option Reason) (E : Type 0) (k : ℕ) (t : Handled S) → Act quit E t → Act quit E (deliver_for k t)
+    acts_deliver_for quit E zero t h = h
+    acts_deliver_for quit E (suc k) t h = go (acts_deliver_for quit E k) (next_delay t.snapshot.delays t.snapshot.clock) refl
       where
         next_in : (ds : List PlainDelay) (now : ℕ) (q : PlainDelay × List PlainDelay) → next_delay ds now ≡ Some q → AllByRecursion (λ (d : PlainDelay). d.to ≢ 0) ds → (q.0.to ≢ 0) × AllByRecursion (λ (d : PlainDelay). d.to ≢ 0) q.1
         next_in [] now q e all = cc
@@ -308,7 +308,7 @@ module _ {S : Type 0} (p : ℕ) (Quits : Type 0) (Known : S → Type 0) where
         go later None e = rw e h
         go later (Some next) e =
             let both = next_in t.snapshot.delays t.snapshot.clock next e h.later in
-            rw e (later (send_delayed t next) (a_tell quit E (with_snapshot t (record t.snapshot { delays = next.1 })) next.0.to next.0.priority next.0.content both.0
+            rw e (later (send_delayed t next) (acts_tell quit E (with_snapshot t (record t.snapshot { delays = next.1 })) next.0.to next.0.priority next.0.content both.0
             (record { at = h.at; quit_is = h.quit_is; known = h.known; begun_is = h.begun_is; listed = h.listed; undue = h.undue; held = h.held; later = both.1; goes = h.goes })))
 
     -- nothing is due for an actor that has quit
@@ -319,27 +319,27 @@ module _ {S : Type 0} (p : ℕ) (Quits : Type 0) (Known : S → Type 0) where
         go (inl none) = let wrong : Some why ≡ None = sym h.quit_is ∙ none in cc
         go (inr none) = rw none refl
 
-    a_expire : (k : ℕ) (t : Handled S) → Outcome t → Outcome (expire_for rules k t)
-    a_expire zero t h = h
-    a_expire (suc k) t (Left may why h) = rw (not_due t why h) (Left may why h)
-    a_expire (suc k) t (Going h) = go (a_expire k) (next_due t.snapshot) refl
+    acts_expire : (k : ℕ) (t : Handled S) → Outcome t → Outcome (expire_for rules k t)
+    acts_expire zero t h = h
+    acts_expire (suc k) t (Left may why h) = rw (not_due t why h) (Left may why h)
+    acts_expire (suc k) t (Going h) = go (acts_expire k) (next_due t.snapshot) refl
       where
         go : ((u : Handled S) → Outcome u → Outcome (expire_for rules k u)) → (r : Option (Waiting × WaitingRequests)) → next_due t.snapshot ≡ r → Outcome (expire_for rules (suc k) t)
         go later None e = rw e (Going h)
         go later (Some found) e =
-            rw e (later (time_out rules t found) (a_give (with_snapshot t (record t.snapshot { pending = found.1 })) (timeout_input found.0) tt (with_due t found.1.due h)))
+            rw e (later (time_out rules t found) (acts_give (with_snapshot t (record t.snapshot { pending = found.1 })) (timeout_input found.0) tt (with_due t found.1.due h)))
 
-    a_deliver : (k : ℕ) (t : Handled S) → Outcome t → Outcome (deliver_for k t)
-    a_deliver k t (Going h) = Going (a_deliver_for None (p ≡ 0) k t h)
-    a_deliver k t (Left may why h) = Left may why (a_deliver_for (Some why) (Unit {0}) k t h)
+    acts_deliver : (k : ℕ) (t : Handled S) → Outcome t → Outcome (deliver_for k t)
+    acts_deliver k t (Going h) = Going (acts_deliver_for None (p ≡ 0) k t h)
+    acts_deliver k t (Left may why h) = Left may why (acts_deliver_for (Some why) (Unit {0}) k t h)
 
-    a_hear : (t : Handled S) → Outcome t → Outcome (hear_tick rules t)
-    a_hear t (Going h) = go ((t.snapshot.place == 0) && is_none t.snapshot.quit)
+    acts_hear : (t : Handled S) → Outcome t → Outcome (hear_tick rules t)
+    acts_hear t (Going h) = go ((t.snapshot.place == 0) && is_none t.snapshot.quit)
       where
         go : (b : Bool) → Outcome (if b then give rules t input.Tick else t)
-        go true = a_give t input.Tick tt h
+        go true = acts_give t input.Tick tt h
         go false = Going h
-    a_hear t (Left may why h) = go ((t.snapshot.place == 0) && is_none t.snapshot.quit) refl
+    acts_hear t (Left may why h) = go ((t.snapshot.place == 0) && is_none t.snapshot.quit) refl
       where
         wrong : (b : Bool) → (b && is_none t.snapshot.quit) ≡ true → ⊥
         wrong true e = let none : is_none t.snapshot.quit ≡ false = ap is_none h.quit_is in cc
@@ -349,15 +349,15 @@ module _ {S : Type 0} (p : ℕ) (Quits : Type 0) (Known : S → Type 0) where
         go true e = absurd (wrong (t.snapshot.place == 0) e)
         go false e = Left may why h
 
-    a_tick : (t : Handled S) → Act None (p ≡ 0) t → Outcome (handle_tick rules t)
-    a_tick t h =
+    acts_tick : (t : Handled S) → Act None (p ≡ 0) t → Outcome (handle_tick rules t)
+    acts_tick t h =
         let expired : Handled S = expire_all rules (advance t) in
-        a_hear (deliver_all expired) (a_deliver (length expired.snapshot.delays) expired (a_expire (due_count (advance t).snapshot) (advance t) (Going h)))
+        acts_hear (deliver_all expired) (acts_deliver (length expired.snapshot.delays) expired (acts_expire (due_count (advance t).snapshot) (advance t) (Going h)))
 
     -- ---- one envelope
 
-    a_exit : (t : Handled S) (from : ℕ) (why : Reason) → Act None (p ≡ 0) t → Outcome (handle_exit t from why)
-    a_exit t from why h = go (t.snapshot.place == 0) refl
+    acts_exit : (t : Handled S) (from : ℕ) (why : Reason) → Act None (p ≡ 0) t → Outcome (handle_exit t from why)
+    acts_exit t from why h = go (t.snapshot.place == 0) refl
       where
         gone : (t.snapshot.place == 0) ≡ false → Quits
         gone e = leaves (ap (λ (x : ℕ). x == 0) (sym h.at) ∙ e)
@@ -367,50 +367,50 @@ module _ {S : Type 0} (p : ℕ) (Quits : Type 0) (Known : S → Type 0) where
 
         leave : Quits → (why : Reason) → Outcome (leave_for (with_snapshot t (record t.snapshot { observers = without_link t.snapshot.observers from })) why)
         leave may reason.Normal = Going h
-        leave may reason.UserShutdown = Left may _ (a_quit_with (with_snapshot t (record t.snapshot { observers = without_link t.snapshot.observers from })) reason.UserShutdown h)
-        leave may reason.Kill = Left may _ (a_quit_with (with_snapshot t (record t.snapshot { observers = without_link t.snapshot.observers from })) reason.Kill h)
-        leave may reason.Failed = Left may _ (a_quit_with (with_snapshot t (record t.snapshot { observers = without_link t.snapshot.observers from })) reason.Failed h)
+        leave may reason.UserShutdown = Left may _ (acts_quit_with (with_snapshot t (record t.snapshot { observers = without_link t.snapshot.observers from })) reason.UserShutdown h)
+        leave may reason.Kill = Left may _ (acts_quit_with (with_snapshot t (record t.snapshot { observers = without_link t.snapshot.observers from })) reason.Kill h)
+        leave may reason.Failed = Left may _ (acts_quit_with (with_snapshot t (record t.snapshot { observers = without_link t.snapshot.observers from })) reason.Failed h)
 
         go : (b : Bool) → (t.snapshot.place == 0) ≡ b → Outcome (if b then t else leave_for (with_snapshot t (record t.snapshot { observers = without_link t.snapshot.observers from })) why)
         go true e = Going h
         go false e = leave (gone e) why
 
-    a_begin : (t : Handled S) → Act None (p ≡ 0) t → Act None (p ≡ 0) (begin t)
-    a_begin t h = record { at = h.at; quit_is = h.quit_is; known = h.known; begun_is = λ e. refl; listed = h.listed; undue = h.undue; held = h.held; later = h.later; goes = h.goes }
+    acts_begin : (t : Handled S) → Act None (p ≡ 0) t → Act None (p ≡ 0) (begin t)
+    acts_begin t h = record { at = h.at; quit_is = h.quit_is; known = h.known; begun_is = λ e. refl; listed = h.listed; undue = h.undue; held = h.held; later = h.later; goes = h.goes }
 
-    a_notice : (t : Handled S) (what : Notice) → Act None (p ≡ 0) t → Outcome (handle_notice rules t what)
-    a_notice t notice.Start h = a_give t input.Start tt h
-    a_notice t notice.Stop h = a_give t input.Stop tt h
-    a_notice t (notice.Exit from why) h = a_exit t from why h
-    a_notice t (notice.Link from) h = Going h
-    a_notice t (notice.Unlink from) h = Going h
-    a_notice t (notice.Watch from) h = Going h
-    a_notice t (notice.Unwatch from) h = Going h
-    a_notice t (notice.Down from why) h = a_give t (input.Down from why) tt h
-    a_notice t (notice.Begin from) h = Going (a_begin t h)
-    a_notice t (notice.Tick from) h = a_tick t h
+    acts_notice : (t : Handled S) (what : Notice) → Act None (p ≡ 0) t → Outcome (handle_notice rules t what)
+    acts_notice t notice.Start h = acts_give t input.Start tt h
+    acts_notice t notice.Stop h = acts_give t input.Stop tt h
+    acts_notice t (notice.Exit from why) h = acts_exit t from why h
+    acts_notice t (notice.Link from) h = Going h
+    acts_notice t (notice.Unlink from) h = Going h
+    acts_notice t (notice.Watch from) h = Going h
+    acts_notice t (notice.Unwatch from) h = Going h
+    acts_notice t (notice.Down from why) h = acts_give t (input.Down from why) tt h
+    acts_notice t (notice.Begin from) h = Going (acts_begin t h)
+    acts_notice t (notice.Tick from) h = acts_tick t h
 
-    a_body : (t : Handled S) (origin : Origin) (body : Plain) → AvoidsZero p origin.mid body → Act None (p ≡ 0) t → Outcome (handle_body rules t origin body)
-    a_body t origin («plain».System what) avoids h = a_notice t what h
-    a_body t origin («plain».Failure what) avoids h = a_resolve t (λ w. failure_input w what) (λ w. tt) (resolved t.snapshot.pending origin.mid.number) h
-    a_body t origin («plain».Content words) avoids h = go origin.mid.response avoids
+    acts_body : (t : Handled S) (origin : Origin) (body : Plain) → AvoidsZero p origin.mid body → Act None (p ≡ 0) t → Outcome (handle_body rules t origin body)
+    acts_body t origin («plain».System what) avoids h = acts_notice t what h
+    acts_body t origin («plain».Failure what) avoids h = acts_resolve t (λ w. failure_input w what) (λ w. tt) (resolved t.snapshot.pending origin.mid.number) h
+    acts_body t origin («plain».Content words) avoids h = go origin.mid.response avoids
       where
         go : (b : Bool) → (not b ≡ true → p ≢ 0) → Outcome (if b then resolve_with rules t (λ w. response_input w words) (resolved t.snapshot.pending origin.mid.number) else handle_content rules t origin words)
-        go true other = a_resolve t (λ w. response_input w words) (λ w. response_may t.snapshot.behavior w words) (resolved t.snapshot.pending origin.mid.number) h
-        go false other = a_content t origin words (other refl) h
+        go true other = acts_resolve t (λ w. response_input w words) (λ w. response_may t.snapshot.behavior w words) (resolved t.snapshot.pending origin.mid.number) h
+        go false other = acts_content t origin words (other refl) h
 
-    a_one : (t : Handled S) (e : Taken) → IsFor p e → Outcome t → Outcome (handle_one rules t e)
-    a_one t e is (Going h) = subst (λ (quit : Option Reason). Outcome (handle_where rules t quit (origin_of e) e.body)) (sym h.quit_is) (a_body t (origin_of e) e.body is h)
-    a_one t e is (Left may why h) =
-        subst (λ (quit : Option Reason). Outcome (handle_where rules t quit (origin_of e) e.body)) (sym h.quit_is) (Left may why (a_shell (Some why) (Unit {0}) t why (origin_of e) e.body h))
+    acts_one : (t : Handled S) (e : Taken) → IsFor p e → Outcome t → Outcome (handle_one rules t e)
+    acts_one t e is (Going h) = subst (λ (quit : Option Reason). Outcome (handle_where rules t quit (origin_of e) e.body)) (sym h.quit_is) (acts_body t (origin_of e) e.body is h)
+    acts_one t e is (Left may why h) =
+        subst (λ (quit : Option Reason). Outcome (handle_where rules t quit (origin_of e) e.body)) (sym h.quit_is) (Left may why (acts_shell (Some why) (Unit {0}) t why (origin_of e) e.body h))
 
     -- ---- a batch
 
     with_lists : (quit : Option Reason) (E : Type 0) (t : Handled S) (lists : CachedLists) → AllCached (IsFor p) lists → Act quit E t → Act quit E (with_snapshot t (record t.snapshot { caches = lists }))
     with_lists quit E t lists all h = record { at = h.at; quit_is = h.quit_is; known = h.known; begun_is = h.begun_is; listed = all; undue = h.undue; held = h.held; later = h.later; goes = h.goes }
 
-    a_next : (t : Handled S) (q : Taken × Snapshot S) → next_envelope rules t.snapshot ≡ Some q → Outcome t → IsFor p q.0 × Outcome (with_snapshot t q.1)
-    a_next t q e h = go (next_of (is_eligible rules t.snapshot) t.snapshot.caches) refl e
+    acts_next : (t : Handled S) (q : Taken × Snapshot S) → next_envelope rules t.snapshot ≡ Some q → Outcome t → IsFor p q.0 × Outcome (with_snapshot t q.1)
+    acts_next t q e h = go (next_of (is_eligible rules t.snapshot) t.snapshot.caches) refl e
       where
         left : (r : Taken × CachedLists) → next_of (is_eligible rules t.snapshot) t.snapshot.caches ≡ Some r → Outcome t → IsFor p r.0 × Outcome (with_snapshot t (record t.snapshot { caches = r.1 }))
         left r f (Going k) = let both = all_next (is_eligible rules t.snapshot) (IsFor p) t.snapshot.caches r k.listed f in (both.0, Going (with_lists None (p ≡ 0) t r.1 both.1 k))
@@ -422,12 +422,12 @@ module _ {S : Type 0} (p : ℕ) (Quits : Type 0) (Known : S → Type 0) where
             let same : (r.0, record t.snapshot { caches = r.1 }) ≡ q = cc in
             subst (λ (u : Taken × Snapshot S). IsFor p u.0 × Outcome (with_snapshot t u.1)) same (left r f h)
 
-    pub a_turn : (t : Handled S) (q : Taken × Snapshot S) → next_envelope rules t.snapshot ≡ Some q → Outcome t → Outcome (handle_one rules (with_snapshot t q.1) q.0)
-    a_turn t q e h = let both = a_next t q e h in a_one (with_snapshot t q.1) q.0 both.0 both.1
+    pub acts_turn : (t : Handled S) (q : Taken × Snapshot S) → next_envelope rules t.snapshot ≡ Some q → Outcome t → Outcome (handle_one rules (with_snapshot t q.1) q.0)
+    acts_turn t q e h = let both = acts_next t q e h in acts_one (with_snapshot t q.1) q.0 both.0 both.1
 
-    pub a_filed : (s : Snapshot S) (batch : List Taken) → AllByRecursion (IsFor p) batch → Outcome (so_far s []) → Outcome (so_far (with_batch s batch) [])
-    a_filed s batch all (Going h) = Going (record { at = h.at; quit_is = h.quit_is; known = h.known; begun_is = h.begun_is; listed = all_filed (IsFor p) s.caches batch h.listed all; undue = h.undue; held = h.held; later = h.later; goes = tt })
-    a_filed s batch all (Left may why h) = Left may why (record { at = h.at; quit_is = h.quit_is; known = h.known; begun_is = h.begun_is; listed = all_filed (IsFor p) s.caches batch h.listed all; undue = h.undue; held = h.held; later = h.later; goes = tt })
+    pub acts_filed : (s : Snapshot S) (batch : List Taken) → AllByRecursion (IsFor p) batch → Outcome (so_far s []) → Outcome (so_far (with_batch s batch) [])
+    acts_filed s batch all (Going h) = Going (record { at = h.at; quit_is = h.quit_is; known = h.known; begun_is = h.begun_is; listed = all_filed (IsFor p) s.caches batch h.listed all; undue = h.undue; held = h.held; later = h.later; goes = tt })
+    acts_filed s batch all (Left may why h) = Left may why (record { at = h.at; quit_is = h.quit_is; known = h.known; begun_is = h.begun_is; listed = all_filed (IsFor p) s.caches batch h.listed all; undue = h.undue; held = h.held; later = h.later; goes = tt })
 
-    pub a_batch : (s : Snapshot S) (batch : List Taken) → AllByRecursion (IsFor p) batch → Outcome (so_far s []) → Outcome (batch_of rules s batch)
-    a_batch s batch all h = drain_keeps rules Outcome a_turn (cached (with_batch s batch)) (so_far (with_batch s batch) []) (a_filed s batch all h)
+    pub acts_batch : (s : Snapshot S) (batch : List Taken) → AllByRecursion (IsFor p) batch → Outcome (so_far s []) → Outcome (batch_of rules s batch)
+    acts_batch s batch all h = drain_keeps rules Outcome acts_turn (cached (with_batch s batch)) (so_far (with_batch s batch) []) (acts_filed s batch all h)

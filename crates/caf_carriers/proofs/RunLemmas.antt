@@ -23,6 +23,7 @@ use Rattle.caf_actor.proofs.SoundLemmas.{IsSound, within_batch, stays_within, po
 use Rattle.caf_actor.proofs.StampLemmas.{place_stays}
 use Rattle.caf_record.proofs.BatchLemmas.{all_to}
 use Rattle.caf_record.proofs.ListLemmas.{all_left, all_drop, all_map}
+use Rattle.caf_carriers.specs.Counted.{IsCounted}
 use Rattle.caf_carriers.specs.Home.{BelongsTo, IsHome, GoesHome}
 use Rattle.caf_carriers.proofs.CountLemmas.{one, count-append, sum_same, more_given, self_same, same_number}
 use Rattle.caf_carriers.proofs.DueLemmas.{DueWaits, due_waits}
@@ -96,14 +97,6 @@ pub record InOrder {S : Type 0} (valid : S → Type 0) (rules : Rules S) (places
   pub waiting_home : (x b : ℕ) → AllByRecursion (IsHome b) (s.waiting x b)
   pub waiting_within : (x b : ℕ) → AllByRecursion (LeadsWithin (λ q. q < places)) (s.waiting x b)
   pub senders : (x b : ℕ) → IsSender places x ⊎ (s.waiting x b ≡ [])
-
--- a request was resolved `d` times, `c` times of these by a response
-pub record IsCounted {S : Type 0} (a n : ℕ) (s : State (Snapshot S)) (c d : ℕ) : Type 0 where
-  pub low : 1 ≤ (s.snapshot a).pending.next
-  pub most : carriers a n s + c ≤ given_between 1 (s.snapshot a).pending.next n
-  pub cover : waiting_count (s.snapshot a).pending n ≤ carriers a n s
-  pub once : waiting_count (s.snapshot a).pending n + d ≤ given_between 1 (s.snapshot a).pending.next n
-  pub exact : (s.snapshot a).quit ≡ None → waiting_count (s.snapshot a).pending n + d ≡ given_between 1 (s.snapshot a).pending.next n
 
 module _ {S : Type 0} (valid : S → Type 0) (rules : Rules S) (stays : StaysValid valid rules) (same : StaysSameActor valid rules) (peers : SendsToPeers valid rules) (answers : AnswersRequests valid rules) where
 

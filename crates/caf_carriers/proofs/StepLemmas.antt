@@ -15,10 +15,11 @@ use Rattle.caf_actor.specs.Run.{State, Turn, Step, Take, Speak, send_notice, nex
 use Rattle.caf_actor.specs.Resolutions.{Resolution, is_answer, has_request, times_resolved, times_answered, given_between}
 use Rattle.caf_actor.specs.Carriers.{carries, carriers_at, carriers_to, carriers, step_resolves, run_resolves, AreFresh}
 use Rattle.caf_record.proofs.ListLemmas.{and_left}
+use Rattle.caf_carriers.specs.Counted.{IsCounted}
 use Rattle.caf_carriers.specs.Home.{IsHome}
 use Rattle.caf_carriers.proofs.CountLemmas.{one, count-cons, count-append, none_given, sum_same, sum_none, same_number}
 use Rattle.caf_carriers.proofs.TotalLemmas.{IsSender}
-use Rattle.caf_carriers.proofs.RunLemmas.{InOrder, IsCounted, no_response, leads_nowhere, order_after, counted_after}
+use Rattle.caf_carriers.proofs.RunLemmas.{InOrder, no_response, leads_nowhere, order_after, counted_after}
 
 -- ---- the outside sends a notice
 

@@ -37,7 +37,7 @@ use Rattle.caf_actor.proofs.KeptLemmas as kept
 use Rattle.caf_actor.proofs.SimpleLemmas as simple
 use Rattle.caf_record.proofs.BatchLemmas.{to_append}
 use Rattle.caf_carriers.proofs.CountLemmas.{one, count-cons, count-append, self_same}
-use Rattle.caf_carriers.proofs.PlaceLemmas.{IsFor, Outcome, Going, Left, a_turn, a_filed}
+use Rattle.caf_carriers.proofs.PlaceLemmas.{IsFor, Outcome, Going, Left, acts_turn, acts_filed}
 use Rattle.caf_carriers.proofs.CloserLemmas.{WasFed, KnownAt, OutcomeAt, behaves_at, other_place}
 use Rattle.caf_carriers.proofs.KillLemmas.{is_kill, stops, listed, listed_next, listed_filed}
 
@@ -147,7 +147,7 @@ module _ {S : Type 0} (valid : S → Type 0) (rules : Rules S) (stays : StaysVal
 
   stopping_turn : (t : Handled S) (n : Taken × Snapshot S) → next_envelope rules t.snapshot ≡ Some n → AtZero t × Stopping q rules t → AtZero (handle_one rules (with_snapshot t n.1) n.0) × Stopping q rules (handle_one rules (with_snapshot t n.1) n.0)
   stopping_turn t n e h =
-      (a_turn 0 (◌≢◌ {A = ℕ} 0 0) (KnownAt valid rules (start 0) true) rules (behaves_at valid rules stays same peers places start closer 0 true refl) (other_place valid rules stays same peers places start closer 0) t n e h.0,
+      (acts_turn 0 (◌≢◌ {A = ℕ} 0 0) (KnownAt valid rules (start 0) true) rules (behaves_at valid rules stays same peers places start closer 0 true refl) (other_place valid rules stays same peers places start closer 0) t n e h.0,
         go (next_of (is_eligible rules t.snapshot) t.snapshot.caches) refl e)
     where
       taken : (r : Taken × CachedLists) → next_of (is_eligible rules t.snapshot) t.snapshot.caches ≡ Some r → AtZero t → Stopping q rules t → Stopping q rules (handle_one rules (with_snapshot t (record t.snapshot { caches = r.1 })) r.0)
@@ -181,7 +181,7 @@ module _ {S : Type 0} (valid : S → Type 0) (rules : Rules S) (stays : StaysVal
   stopping_batch s batch all at some =
       let count = listed_filed stops s.caches batch in
       let filed_at : AtZero (so_far (with_batch s batch) []) =
-      a_filed 0 (◌≢◌ {A = ℕ} 0 0) (KnownAt valid rules (start 0) true) rules (behaves_at valid rules stays same peers places start closer 0 true refl) (other_place valid rules stays same peers places start closer 0) s batch all at in
+      acts_filed 0 (◌≢◌ {A = ℕ} 0 0) (KnownAt valid rules (start 0) true) rules (behaves_at valid rules stays same peers places start closer 0 true refl) (other_place valid rules stays same peers places start closer 0) s batch all at in
       let last = drain_keeps rules (λ u. AtZero u × Stopping q rules u) stopping_turn (cached (with_batch s batch)) (so_far (with_batch s batch) []) (filed_at, inr (inl (omega arith))) in
       go last.0 last.1
     where

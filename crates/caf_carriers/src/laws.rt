@@ -2,7 +2,7 @@
 //! behaviour, any number of places and any number of ticks, in every state of every run that opens
 //! with actors that have taken nothing. The machine of all places on one thread, the carriers of a
 //! request and its resolutions are defined in `caf_actor` (`Run`, `Carriers`, `Resolutions`).
-ghost use Rattle.caf_actor.specs.Carriers.{OneCarrier, CarrierArises, ResolvesOnce, WaitsOrIsResolved, StandsInOnePlace};
+ghost use Rattle.caf_actor.specs.Carriers.{OneCarrier, CarrierArises, ResolvesOnce, WaitsOrIsResolved, StandsInOnePlace, ClosesAll};
 
 use caf_actor::Behavior;
 
@@ -33,4 +33,10 @@ pub fn waits_or_is_resolved<B: Behavior>()
 /// stands in exactly one place: one hold, or one cached envelope that isn't eligible.
 pub fn stands_in_one_place<B: Behavior>()
     ensures { StandsInOnePlace B.is_valid B.rules }
+{}
+
+/// Where the record of a closer at place 0 is complete, every other place has quit, and each request
+/// that place 0 issued was resolved exactly once.
+pub fn closes_all<B: Behavior>()
+    ensures { ClosesAll B.is_valid B.rules }
 {}
