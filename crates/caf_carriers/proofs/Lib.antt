@@ -13,3 +13,4 @@ pub mod KillLemmas
 pub mod StopLemmas
 pub mod DoomLemmas
 pub mod ClosesLemmas
+pub mod DeliveryLemmas

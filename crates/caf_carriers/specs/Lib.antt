@@ -1,2 +1,3 @@
 pub mod Home
 pub mod Counted
+pub mod Delivery

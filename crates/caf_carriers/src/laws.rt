@@ -3,6 +3,8 @@
 //! with actors that have taken nothing. The machine of all places on one thread, the carriers of a
 //! request and its resolutions are defined in `caf_actor` (`Run`, `Carriers`, `Resolutions`).
 ghost use Rattle.caf_actor.specs.Carriers.{OneCarrier, CarrierArises, ResolvesOnce, WaitsOrIsResolved, StandsInOnePlace, ClosesAll};
+ghost use Rattle.caf_actor.specs.Record.{machine_of};
+ghost use Rattle.caf_carriers.specs.Delivery.{CompleteIsAllTaken, NoneHandledAfterQuitting};
 
 use caf_actor::Behavior;
 
@@ -39,4 +41,16 @@ pub fn stands_in_one_place<B: Behavior>()
 /// that place 0 issued was resolved exactly once.
 pub fn closes_all<B: Behavior>()
     ensures { ClosesAll B.is_valid B.rules }
+{}
+
+/// In a complete record every message sent was taken once, as sent, in order per sender: what a place
+/// took from another, in the order of taking, is what the other sent to it, in the order of sending.
+pub fn every_message_is_taken<B: Behavior>()
+    ensures { CompleteIsAllTaken (machine_of B.rules) }
+{}
+
+/// None is handled after quitting: once an actor has quit, nothing that leaves its lists reaches its
+/// behaviour, neither in that batch nor in a later one.
+pub fn none_handled_after_quitting<B: Behavior>()
+    ensures { NoneHandledAfterQuitting B.rules }
 {}
