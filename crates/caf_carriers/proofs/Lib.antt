@@ -14,3 +14,4 @@ pub mod StopLemmas
 pub mod DoomLemmas
 pub mod ClosesLemmas
 pub mod DeliveryLemmas
+pub mod RequestLemmas

@@ -5,6 +5,7 @@
 ghost use Rattle.caf_actor.specs.Carriers.{OneCarrier, CarrierArises, ResolvesOnce, WaitsOrIsResolved, StandsInOnePlace, ClosesAll};
 ghost use Rattle.caf_actor.specs.Record.{machine_of};
 ghost use Rattle.caf_carriers.specs.Delivery.{CompleteIsAllTaken, NoneHandledAfterQuitting};
+ghost use Rattle.caf_carriers.specs.Requests.{LegalIsCarried, CompleteStands};
 
 use caf_actor::Behavior;
 
@@ -53,4 +54,17 @@ pub fn every_message_is_taken<B: Behavior>()
 /// behaviour, neither in that batch nor in a later one.
 pub fn none_handled_after_quitting<B: Behavior>()
     ensures { NoneHandledAfterQuitting B.rules }
+{}
+
+/// In the run that a legal record's merge is, each request is carried in every state; none is resolved
+/// twice, and each by a value of the declared types or by an error; and what an actor issued that hasn't
+/// quit waits at the end, or it was resolved.
+pub fn legal_record_is_carried<B: Behavior>()
+    ensures { LegalIsCarried B.is_valid B.rules }
+{}
+
+/// At the end of a complete record, an unresolved request of an actor that hasn't quit stands in exactly
+/// one place: one hold, or one cached envelope; and no cached envelope is eligible.
+pub fn complete_record_stands<B: Behavior>()
+    ensures { CompleteStands B.is_valid B.rules }
 {}
