@@ -1,16 +1,14 @@
 -- A batch makes no carrier of a request but by issuing it, and loses none but with the request that it resolves.
-use Rattle.std.proofs.Common.{◌≡◌, ◌≢◌, ℕ, zero, suc, ◌+◌, ◌≤◌, ◌<◌, ◌∙◌, sym, ap, subst, ◌==◌, ◌&&◌, Bool, true, false, List, [], ◌∷◌, ◌++◌, filter, count_by, cond, Option, Some, None, refl, arith, ◌⊎◌, inl, inr}
+use Rattle.std.proofs.Common.{◌≡◌, ℕ, zero, suc, ◌+◌, ◌≤◌, ◌<◌, ◌∙◌, sym, ap, subst, ◌==◌, ◌&&◌, Bool, true, false, List, [], ◌++◌, filter, count_by, Option, Some, None, refl, arith, ◌⊎◌, inl, inr}
 use Rattle.std.specs.List.{AllByRecursion}
 use Rattle.caf_types.specs.declared.reason.Reason.{Reason}
 use Rattle.caf_message.specs.declared.envelope.Taken.{Taken}
 use Rattle.caf_message.specs.Lists.{pick}
-use Rattle.caf_mailbox.specs.Caches.{CachedLists, is_urgent, is_normal, filed, next_of}
+use Rattle.caf_mailbox.specs.Caches.{CachedLists, is_urgent, is_normal, next_of}
 use Rattle.caf_mailbox.proofs.NextLemmas.{AllCached, all_next, all_filed}
 use Rattle.caf_response.specs.Pending.{WaitingRequests, waiting_count}
-use Rattle.caf_response.specs.Holds.{is_of}
 use Rattle.caf_response.proofs.NumberLemmas.{picked}
 use Rattle.caf_actor.specs.declared.snapshot.Snapshot.{Snapshot}
-use Rattle.caf_actor.specs.PlainPost.{PlainPost}
 use Rattle.caf_actor.specs.Rules.{Rules, AnswersRequests, StaysValid}
 use Rattle.caf_actor.specs.Snapshot.{Handled, so_far, with_snapshot, cached}
 use Rattle.caf_actor.specs.Eligibility.{is_eligible, with_caches, next_envelope}
@@ -21,7 +19,7 @@ use Rattle.caf_actor.specs.Carriers.{carries, carriers_at}
 use Rattle.caf_actor.proofs.SimpleLemmas as simple
 use Rattle.caf_carriers.specs.Home.{IsHome, GoesHome}
 use Rattle.caf_carriers.proofs.CountLemmas.{one, count-append, count-parts, when_own, own-plus, none_given}
-use Rattle.caf_carriers.proofs.EnvelopeLemmas.{Stands, Inv, Any, Ended, Done, Live, Gone, carried, waits_in, issued_at, in_posts, After, after_none, on_one}
+use Rattle.caf_carriers.proofs.EnvelopeLemmas.{Inv, Any, Ended, Done, Live, Gone, carried, waits_in, issued_at, after_none, on_one}
 
 -- ---- the next envelope
 

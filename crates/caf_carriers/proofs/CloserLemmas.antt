@@ -1,8 +1,7 @@
 -- In a run with a closer at place 0, no content is sent to it, it holds nothing, and it never quits.
-use Rattle.std.proofs.Common.{◌≡◌, ◌≢◌, ℕ, zero, suc, ◌+◌, ◌≤◌, ◌<◌, ◌∙◌, sym, ap, subst, ◌==◌, ◌&&◌, Bool, true, false, List, [], ◌∷◌, ◌++◌, length, Option, Some, None, refl, arith, ◌⊎◌, inl, inr}
+use Rattle.std.proofs.Common.{◌≡◌, ◌≢◌, ℕ, zero, suc, ◌<◌, ◌∙◌, sym, ap, subst, ◌==◌, ◌&&◌, Bool, true, false, List, [], ◌∷◌, ◌++◌, length, refl, arith, inl, inr}
 use Rattle.std.specs.Prelude.{Contains, slice_index_or}
 use Rattle.std.specs.List.{AllByRecursion}
-use Rattle.std.proofs.lemmas.Bool.Decides.{nat_tests}
 use Rattle.std.proofs.lemmas.List.Elements.{Contains-append_right}
 use Rattle.caf_message.specs.declared.envelope.Taken.{Taken}
 use Rattle.caf_message.specs.Envelope.{outside, start_envelope}
@@ -15,12 +14,12 @@ use Rattle.caf_actor.specs.PlainPost.{PlainPost}
 use Rattle.caf_actor.specs.Rules.{Rules, IsTarget, HasTargets, MayBeGiven, fed, MayBeFed, output_targets, answer_targets, AnswersRequests, StaysValid, StaysSameActor, SendsToPeers}
 use Rattle.caf_actor.specs.Snapshot.{Handled, so_far, fresh}
 use Rattle.caf_actor.specs.Drain.{batch_of}
-use Rattle.caf_actor.specs.Record.{Machine, machine_of, from_place, to_place, when, SendsNothingTo, IsCloser}
-use Rattle.caf_actor.specs.Run.{State, Turn, Step, Take, Speak, MayTake, take_batch, next_notice, send_notice, step, IsPossible, opening_state}
+use Rattle.caf_actor.specs.Record.{machine_of, to_place, when, SendsNothingTo, IsCloser}
+use Rattle.caf_actor.specs.Run.{State, Turn, Step, Take, Speak, MayTake, take_batch, next_notice, step, IsPossible, opening_state}
 use Rattle.caf_actor.specs.Carriers.{AreFresh, IsReserved}
 use Rattle.caf_record.proofs.ListLemmas.{all_map}
 use Rattle.caf_carriers.proofs.CountLemmas.{same_number}
-use Rattle.caf_carriers.proofs.PlaceLemmas.{AvoidsZero, IsFor, GoesElsewhere, Act, Acting, Outcome, Going, Left, Behaves, acts_batch}
+use Rattle.caf_carriers.proofs.PlaceLemmas.{AvoidsZero, IsFor, GoesElsewhere, Outcome, Going, Left, Behaves, acts_batch}
 use Rattle.caf_carriers.proofs.RunLemmas.{InOrder, of_batch, at_each, all_waiting}
 
 -- ---- what is fed in two parts
@@ -128,7 +127,7 @@ module _ {S : Type 0} (valid : S → Type 0) (rules : Rules S) (stays : StaysVal
     closing_step ticks s Speak may order h = record {
       each = h.each;
       waiting = λ x b.
-        all_append (IsFor b) (s.waiting x b) (when ((outside == x) && (0 == b)) (next_notice (machine_of rules) ticks s ∷ [])) (h.waiting x b) (notice b ((outside == x) && (0 == b)));
+          all_append (IsFor b) (s.waiting x b) (when ((outside == x) && (0 == b)) (next_notice (machine_of rules) ticks s ∷ [])) (h.waiting x b) (notice b ((outside == x) && (0 == b)));
     }
       where
         notice : (b : ℕ) (c : Bool) → AllByRecursion (IsFor b) (when c (next_notice (machine_of rules) ticks s ∷ []))

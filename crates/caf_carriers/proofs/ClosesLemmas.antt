@@ -1,15 +1,13 @@
 -- Where a closer's record is complete, every other place has quit, and each request of place 0 was resolved once.
-use Rattle.std.proofs.Common.{◌≡◌, ◌≢◌, ℕ, zero, suc, ◌+◌, ◌≤◌, ◌<◌, ◌∙◌, sym, ap, subst, ◌==◌, ◌&&◌, ◌||◌, Bool, true, false, if◌then◌else◌, List, [], ◌∷◌, ◌++◌, count_by, cond, Option, Some, None, is_some, refl, arith, ◌⊎◌, inl, inr}
+use Rattle.std.proofs.Common.{◌≡◌, ◌≢◌, ℕ, zero, suc, ◌+◌, ◌<◌, ◌∙◌, sym, ap, subst, ◌==◌, ◌&&◌, ◌||◌, Bool, true, false, List, [], ◌∷◌, ◌++◌, count_by, Option, Some, None, is_some, refl, arith, inr}
 use Rattle.std.specs.Prelude.{option_map}
 use Rattle.std.specs.List.{AllByRecursion, list_any}
-use Rattle.std.proofs.lemmas.Bool.Decides.{nat_tests}
 use Rattle.caf_types.specs.declared.reason.Reason.{Reason}
 use Rattle.caf_message.specs.declared.envelope.Taken.{Taken}
 use Rattle.caf_message.specs.Envelope.{is_system, is_response, is_content, is_request}
 use Rattle.caf_message.specs.Outside.{holds_stop}
 use Rattle.caf_response.specs.declared.pending.Waiting.{Waiting}
-use Rattle.caf_response.specs.Pending.{WaitingRequests, has_number, top_number, waiting_count}
-use Rattle.caf_response.specs.Promised.{Promised}
+use Rattle.caf_response.specs.Pending.{has_number, top_number, waiting_count}
 use Rattle.caf_response.specs.Holds.{is_of}
 use Rattle.caf_actor.specs.declared.snapshot.Snapshot.{Snapshot}
 use Rattle.caf_actor.specs.declared.journal.TakenBatch.{TakenBatch}
@@ -17,22 +15,21 @@ use Rattle.caf_actor.specs.Rules.{Rules, AnswersRequests, StaysValid, StaysSameA
 use Rattle.caf_actor.specs.Snapshot.{so_far}
 use Rattle.caf_actor.specs.Eligibility.{is_awaited, is_turn, is_eligible, is_eligible_when}
 use Rattle.caf_actor.specs.Quitting.{all_cached}
-use Rattle.caf_actor.specs.Record.{Machine, Kept, machine_of, ends, untaken, cut_in, holds_notice, sum_below, IsStill, IsCloser, IsComplete}
-use Rattle.caf_actor.specs.Run.{State, Turn, Step, Take, Speak, step, run, IsRun, opening_state}
-use Rattle.caf_actor.specs.Merge.{IsMerge, batches_in, steps_of}
+use Rattle.caf_actor.specs.Record.{machine_of, ends, cut_in, holds_notice, sum_below, IsStill, IsCloser}
+use Rattle.caf_actor.specs.Run.{State, Turn, Step, Take, step, run, IsRun, opening_state}
+use Rattle.caf_actor.specs.Merge.{batches_in, steps_of}
 use Rattle.caf_actor.specs.Resolutions.{times_resolved, times_answered}
-use Rattle.caf_actor.specs.Carriers.{is_mid, carries, carriers_at, carriers, step_resolves, AreFresh, end_of, resolutions_of, ClosesAll}
+use Rattle.caf_actor.specs.Carriers.{is_mid, carries, carriers_at, step_resolves, AreFresh, end_of, resolutions_of, ClosesAll}
 use Rattle.caf_actor.proofs.ResolutionLemmas.{carriers_rest}
 use Rattle.caf_record.proofs.ListLemmas.{and_left, and_right}
 use Rattle.caf_record.proofs.StampedLemmas.{has_stamps}
 use Rattle.caf_record.proofs.MergeLemmas.{merge_runs}
 use Rattle.caf_carriers.proofs.CountLemmas.{one, count-cons, count-append, sum_none, self_same, same_number}
-use Rattle.caf_carriers.proofs.PlaceLemmas.{IsFor, Outcome, Going, Left}
+use Rattle.caf_carriers.proofs.PlaceLemmas.{IsFor, Going, Left}
 use Rattle.caf_carriers.proofs.StepLemmas as steps
 use Rattle.caf_carriers.proofs.StepLemmas.{kept_step, order_opening, counted_opening}
 use Rattle.caf_carriers.proofs.CloserLemmas.{Closing, OutcomeAt, closing_step, closing_opening}
-use Rattle.caf_carriers.proofs.KillLemmas.{none_counted}
-use Rattle.caf_carriers.proofs.DoomLemmas.{takes_stop, IsDoomed, doomed_run, has_quit}
+use Rattle.caf_carriers.proofs.DoomLemmas.{takes_stop, doomed_run, has_quit}
 use Rattle.caf_carriers.proofs.LawLemmas.{kept_end, waits_or_is_resolved}
 
 -- ---- Stop in the merge

@@ -1,5 +1,5 @@
 -- Complete records are all taken, and none is handled after quitting.
-use Rattle.std.proofs.Common.{◌≡◌, ◌≢◌, ℕ, ◌∙◌, sym, ap, subst, List, [], ◌∷◌, ◌++◌, length, drop, Option, Some, None, refl}
+use Rattle.std.proofs.Common.{◌≡◌, ◌≢◌, ◌∙◌, sym, ap, subst, List, [], ◌∷◌, ◌++◌, Option, Some, None, refl}
 use Rattle.std.proofs.lemmas.List.{append-nil}
 use Rattle.caf_types.specs.declared.reason.Reason.{Reason}
 use Rattle.caf_message.specs.declared.envelope.Taken.{Taken}
@@ -10,7 +10,7 @@ use Rattle.caf_actor.specs.Rules.{Rules}
 use Rattle.caf_actor.specs.Snapshot.{Handled, with_snapshot}
 use Rattle.caf_actor.specs.Eligibility.{is_eligible, with_caches, next_envelope}
 use Rattle.caf_actor.specs.Drain.{drain_for, batch_of}
-use Rattle.caf_actor.specs.Record.{Machine, Kept, machine_of, IsPrefix, after, ends, taken_by, sent_by}
+use Rattle.caf_actor.specs.Record.{Machine, machine_of, IsPrefix, after, ends, taken_by, sent_by}
 use Rattle.caf_actor.proofs.DrainLemmas.{drain_keeps}
 use Rattle.caf_actor.proofs.QuitLemmas.{Stays, stays_one, none_after_quitting}
 use Rattle.caf_record.proofs.BatchLemmas.{drop_prefix, after_append}

@@ -1,27 +1,25 @@
 -- Once a closer took Stop, each other place quits before all is at rest.
-use Rattle.std.proofs.Common.{◌≡◌, ◌≢◌, ℕ, zero, suc, ◌+◌, ◌≤◌, ◌<◌, ◌∙◌, sym, ap, subst, ◌==◌, ◌&&◌, ◌||◌, Bool, true, false, if◌then◌else◌, List, [], ◌∷◌, ◌++◌, length, drop, count_by, cond, Option, Some, None, refl, arith, ◌⊎◌, inl, inr}
+use Rattle.std.proofs.Common.{◌≡◌, ◌≢◌, ℕ, zero, suc, ◌+◌, ◌≤◌, ◌<◌, ◌∙◌, sym, ap, subst, ◌==◌, ◌&&◌, ◌||◌, Bool, true, false, List, [], ◌∷◌, ◌++◌, length, drop, count_by, None, refl, arith, ◌⊎◌, inl, inr}
 use Rattle.std.specs.List.{AllByRecursion, list_any}
 use Rattle.std.proofs.lemmas.Bool.Decides.{nat_tests}
 use Rattle.caf_message.specs.declared.envelope.Taken.{Taken}
 use Rattle.caf_message.specs.Envelope.{outside}
 use Rattle.caf_message.specs.Outside.{is_stop, holds_stop}
 use Rattle.caf_actor.specs.declared.snapshot.Snapshot.{Snapshot}
-use Rattle.caf_actor.specs.PlainPost.{PlainPost}
 use Rattle.caf_actor.specs.Rules.{Rules, AnswersRequests, StaysValid, StaysSameActor, SendsToPeers}
 use Rattle.caf_actor.specs.Eligibility.{is_eligible}
 use Rattle.caf_actor.specs.Quitting.{all_cached}
 use Rattle.caf_actor.specs.Drain.{batch_of}
-use Rattle.caf_actor.specs.Record.{Machine, machine_of, IsPrefix, from_place, to_place, when, IsStill, IsCloser}
-use Rattle.caf_actor.specs.Run.{State, Turn, Step, Take, Speak, without, MayTake, take_batch, next_notice, send_notice, step, run, IsPossible, IsRun}
+use Rattle.caf_actor.specs.Record.{machine_of, IsPrefix, from_place, to_place, when, IsStill, IsCloser}
+use Rattle.caf_actor.specs.Run.{State, Turn, Step, Take, Speak, without, MayTake, take_batch, next_notice, step, run, IsPossible, IsRun}
 use Rattle.caf_actor.specs.Resolutions.{times_resolved, times_answered}
 use Rattle.caf_actor.specs.Carriers.{step_resolves}
 use Rattle.caf_actor.proofs.ResolutionLemmas.{carriers_rest}
 use Rattle.caf_record.proofs.BatchLemmas.{drop_prefix}
 use Rattle.caf_record.proofs.ListLemmas.{and_left, and_right}
-use Rattle.caf_carriers.proofs.CountLemmas.{one, count-cons, count-append, self_same, same_number}
-use Rattle.caf_carriers.proofs.TotalLemmas.{eq_comm}
+use Rattle.caf_carriers.proofs.CountLemmas.{one, count-cons, count-append, same_number}
 use Rattle.caf_carriers.proofs.PlaceLemmas.{IsFor}
-use Rattle.caf_carriers.proofs.RunLemmas.{InOrder, of_batch, snapshot_after}
+use Rattle.caf_carriers.proofs.RunLemmas.{InOrder, of_batch}
 use Rattle.caf_carriers.proofs.StepLemmas.{Kept, kept_step}
 use Rattle.caf_carriers.proofs.CloserLemmas.{Closing, closing_step}
 use Rattle.caf_carriers.proofs.KillLemmas.{is_kill, stops, listed, none_listed, kill_is_system, stop_is_system, dying_batch}
@@ -61,7 +59,6 @@ module _ {S : Type 0} (q : ℕ) where
 
 module _ {S : Type 0} (valid : S → Type 0) (rules : Rules S) (stays : StaysValid valid rules) (same : StaysSameActor valid rules) (peers : SendsToPeers valid rules) (answers : AnswersRequests valid rules)
     (places : ℕ) (start : ℕ → S) (closer : IsCloser rules places start) (ticks n : ℕ) (is_place : 0 < places) (q : ℕ) (above : 0 < q) (below : q < places) where
-
   q_not_zero : (q == 0) ≡ false
   q_not_zero = grind (arith, nat_tests)
 

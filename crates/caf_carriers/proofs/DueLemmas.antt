@@ -1,5 +1,5 @@
 -- A request has no more due counts than it waits.
-use Rattle.std.proofs.Common.{◌≡◌, ℕ, suc, ◌+◌, ◌≤◌, ◌∙◌, sym, ap, subst, ◌==◌, Bool, true, false, List, [], ◌∷◌, count_by, Option, Some, None, refl, arith}
+use Rattle.std.proofs.Common.{◌≡◌, ℕ, ◌+◌, ◌≤◌, ◌∙◌, ap, subst, ◌==◌, Bool, true, false, List, [], count_by, Option, Some, None, refl, arith}
 use Rattle.caf_types.specs.declared.shape.TypeId.{TypeId}
 use Rattle.caf_mailbox.specs.Caches.{CachedLists, next_of}
 use Rattle.caf_message.specs.declared.envelope.Taken.{Taken}
@@ -18,7 +18,7 @@ use Rattle.caf_actor.specs.Drain.{with_batch, batch_of}
 use Rattle.caf_actor.proofs.SimpleLemmas as simple
 use Rattle.caf_actor.proofs.DrainLemmas.{drain_keeps}
 use Rattle.caf_carriers.proofs.CountLemmas.{one, same_number}
-use Rattle.caf_carriers.proofs.WaitingLemmas.{PutIn, put_issued, put_within, TookNumber, took_number}
+use Rattle.caf_carriers.proofs.WaitingLemmas.{put_issued, put_within, TookNumber, took_number}
 
 abbrev pub DueWaits : ℕ → WaitingRequests → Type 0
 DueWaits n r = pending.due_count r n ≤ waiting_count r n

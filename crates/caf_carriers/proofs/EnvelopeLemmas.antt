@@ -1,5 +1,5 @@
 -- One envelope makes no carrier of a request but by issuing it, and loses none but with the request that it resolves.
-use Rattle.std.proofs.Common.{◌≡◌, ◌≢◌, ℕ, zero, suc, ◌+◌, ◌≤◌, ◌<◌, ◌∙◌, sym, ap, subst, ◌==◌, ◌&&◌, ◌||◌, not, nat_le, nat_lt, Bool, true, false, if◌then◌else◌, List, [], ◌∷◌, ◌++◌, map, length, count_by, cond, Option, Some, None, is_none, refl, arith, ◌⊎◌, inl, inr}
+use Rattle.std.proofs.Common.{◌≡◌, ◌≢◌, ℕ, zero, suc, ◌+◌, ◌≤◌, ◌<◌, ◌∙◌, sym, ap, subst, ◌==◌, ◌&&◌, ◌||◌, nat_lt, Bool, true, false, if◌then◌else◌, List, [], ◌∷◌, ◌++◌, length, count_by, Option, Some, None, is_none, refl, arith, ◌⊎◌, inl, inr}
 use Rattle.std.specs.List.{AllByRecursion}
 use Rattle.std.proofs.lemmas.Bool.Decides.{nat_tests}
 use Rattle.caf_types.specs.declared.notice.Mid.{Mid}
@@ -10,7 +10,6 @@ use Rattle.caf_types.specs.declared.reason.Reason.{Reason}
 use Rattle.caf_types.specs.declared.reason.Reason.TheVariants as reason
 use Rattle.caf_types.specs.declared.sec.Sec.{Sec}
 use Rattle.caf_types.specs.declared.sec.Sec.TheVariants as sec
-use Rattle.caf_types.specs.declared.shape.TypeId.{TypeId}
 use Rattle.caf_message.specs.declared.envelope.Taken.{Taken}
 use Rattle.caf_message.specs.declared.envelope.Plain.{Plain}
 use Rattle.caf_message.specs.declared.envelope.Plain.TheVariants as «plain»
@@ -18,7 +17,6 @@ use Rattle.caf_message.specs.Content.{ids_in}
 use Rattle.caf_message.specs.Envelope.{no_request, is_content_body, is_response_body}
 use Rattle.caf_mailbox.specs.Caches.{CachedLists}
 use Rattle.caf_mailbox.proofs.NextLemmas.{AllCached, all_append}
-use Rattle.caf_response.specs.declared.pending.Mode.{Mode}
 use Rattle.caf_response.specs.declared.pending.Waiting.{Waiting}
 use Rattle.caf_response.specs.Pending.{WaitingRequests, resolved, issued, issued_within, has_number, waiting_count, forgotten}
 use Rattle.caf_response.specs.Delays.{PlainDelay, next_delay}
@@ -37,19 +35,19 @@ use Rattle.caf_actor.specs.PlainReaction.{PlainAnswer}
 use Rattle.caf_actor.specs.PlainReaction as answered
 use Rattle.caf_actor.specs.PlainPost.{PlainPost}
 use Rattle.caf_actor.specs.Clock.{due_after}
-use Rattle.caf_actor.specs.Rules.{Rules, MayBeGiven, is_input, AnswersRequests}
+use Rattle.caf_actor.specs.Rules.{Rules, is_input, AnswersRequests}
 use Rattle.caf_actor.specs.Snapshot.{Handled, with_snapshot}
-use Rattle.caf_actor.specs.Sending.{post, posting, tell, tell_many, notify, reply, mid_of, may_issue, issue, issue_within, settle_hold, send_output, send_outputs, with_delayed}
+use Rattle.caf_actor.specs.Sending.{post, posting, tell, tell_many, notify, reply, mid_of, may_issue, settle_hold, send_output, send_outputs}
 use Rattle.caf_actor.specs.Answering.{origin_of, is_asked, promised_to, refuse, answer_request, answer_tell, answer, with_held}
 use Rattle.caf_actor.specs.Quitting.{shell_notice, handle_shell, shell_all, break_holds, all_cached, notify_all, emptied, quit_with, quit_where}
-use Rattle.caf_actor.specs.Reacting.{react, give, give_content}
+use Rattle.caf_actor.specs.Reacting.{react, give}
 use Rattle.caf_actor.specs.Ticking.{timeout_input, time_out, next_due, expire_for, due_count, expire_all, send_delayed, deliver_for, deliver_all, advance, hear_tick, handle_tick}
-use Rattle.caf_actor.specs.Handling.{handle_content, response_input, failure_input, resolve_with, begin, leave_for, handle_exit, handle_notice, handle_body, handle_where, handle_one}
+use Rattle.caf_actor.specs.Handling.{handle_content, response_input, failure_input, resolve_with, leave_for, handle_exit, handle_notice, handle_body, handle_where, handle_one}
 use Rattle.caf_actor.specs.Resolutions.{Resolution, Answered, TimedOut, resolution_where, expire_resolves, tick_resolves, notice_resolves, body_resolves, resolves_where, resolves, is_answer, has_request, times_resolved, times_answered, given_between}
 use Rattle.caf_actor.specs.Carriers.{is_mid, carries, carriers_at}
 use Rattle.caf_carriers.specs.Home.{BelongsTo, IsHome, GoesHome}
-use Rattle.caf_carriers.proofs.CountLemmas.{one, count-cons, count-append, count-last, count-put, when_own, own-plus, own-none, one_given, self_same, same_number}
-use Rattle.caf_carriers.proofs.WaitingLemmas.{PutIn, put_issued, put_within, TookOut, TookNumber, took_number, took_expired, none_waits}
+use Rattle.caf_carriers.proofs.CountLemmas.{one, count-cons, count-append, count-last, count-put, when_own, own-plus, own-none, one_given, same_number}
+use Rattle.caf_carriers.proofs.WaitingLemmas.{PutIn, put_issued, put_within, TookOut, took_number, took_expired, none_waits}
 
 -- ---- tests
 
@@ -181,7 +179,6 @@ module _ (a n p : ℕ) (own : Bool) (need rest made first before : ℕ) where
       record { at = h.at; quit_is = h.quit_is; home = h.home; goes = h.goes; ended = h.ended; low = h.low; most = omega arith; cover = omega arith; once = h.once; exact = h.exact }
 
   module _ (is_own : (p == a) ≡ own) (no_need : own ≡ true → need ≡ 0) (positive : own ≡ true → 0 < first) where
-
     -- ---- issuing
 
     asked_by_own : (b c e : Bool) → (b ≡ true → c ≡ true → e ≡ true) → one (((true && e) || false) && (b && c)) ≡ when_own b (one c)

@@ -1,11 +1,8 @@
 -- Stop leads to an exit with `kill` to each other place, and that to its quitting: one actor.
-use Rattle.std.proofs.Common.{◌≡◌, ◌≢◌, ℕ, zero, suc, ◌+◌, ◌≤◌, ◌<◌, ◌∙◌, sym, ap, subst, ◌==◌, ◌&&◌, Bool, true, false, if◌then◌else◌, List, [], ◌∷◌, ◌++◌, filter, length, count_by, cond, Option, Some, None, is_some, refl, arith, ◌⊎◌, inl, inr}
+use Rattle.std.proofs.Common.{◌≡◌, ◌≢◌, ℕ, ◌+◌, ◌≤◌, ◌∙◌, sym, ap, subst, ◌==◌, Bool, true, false, List, [], ◌∷◌, filter, count_by, Option, Some, None, is_some, refl, arith, ◌⊎◌, inl, inr}
 use Rattle.std.specs.List.{AllByRecursion}
-use Rattle.std.proofs.lemmas.Bool.Decides.{nat_tests}
-use Rattle.caf_types.specs.declared.notice.Mid.{Mid}
 use Rattle.caf_types.specs.declared.notice.Notice.{Notice}
 use Rattle.caf_types.specs.declared.notice.Notice.TheVariants as notice
-use Rattle.caf_types.specs.declared.notice.Priority.{Priority}
 use Rattle.caf_types.specs.declared.reason.Reason.{Reason}
 use Rattle.caf_types.specs.declared.reason.Reason.TheVariants as reason
 use Rattle.caf_types.specs.declared.sec.Sec.TheVariants as sec
@@ -22,26 +19,18 @@ use Rattle.caf_response.proofs.NumberLemmas.{picked}
 use Rattle.caf_actor.specs.declared.origin.Origin.{Origin}
 use Rattle.caf_actor.specs.declared.snapshot.Snapshot.{Snapshot}
 use Rattle.caf_observe.specs.Observers.{without_link, farewell}
-use Rattle.caf_actor.specs.PlainInput.{PlainInput}
-use Rattle.caf_actor.specs.PlainInput as input
-use Rattle.caf_actor.specs.PlainOutput.{PlainOutput}
-use Rattle.caf_actor.specs.PlainOutput as output
-use Rattle.caf_actor.specs.PlainPost.{PlainPost}
 use Rattle.caf_actor.specs.Rules.{Rules}
-use Rattle.caf_actor.specs.Record.{kills}
 use Rattle.caf_actor.specs.Snapshot.{Handled, so_far, with_snapshot, cached}
 use Rattle.caf_actor.specs.Eligibility.{is_eligible, is_eligible_when, with_caches, next_envelope}
-use Rattle.caf_actor.specs.Sending.{post, posting, notify, reply, send_output, send_outputs}
+use Rattle.caf_actor.specs.Sending.{notify, reply}
 use Rattle.caf_actor.specs.Answering.{origin_of, is_asked}
-use Rattle.caf_actor.specs.Quitting.{shell_notice, handle_shell, shell_all, break_holds, all_cached, notify_all, emptied, quit_with, quit_where}
-use Rattle.caf_actor.specs.Reacting.{react, give}
-use Rattle.caf_actor.specs.Handling.{leave_for, handle_exit, handle_body, handle_where, handle_one}
-use Rattle.caf_actor.specs.Drain.{with_batch, drain_for, batch_of}
+use Rattle.caf_actor.specs.Quitting.{shell_notice, handle_shell, shell_all, break_holds, all_cached, notify_all, emptied, quit_with}
+use Rattle.caf_actor.specs.Handling.{handle_exit, handle_body, handle_where, handle_one}
+use Rattle.caf_actor.specs.Drain.{with_batch, batch_of}
 use Rattle.caf_actor.proofs.DrainLemmas.{drain_keeps}
-use Rattle.caf_actor.proofs.KeptLemmas as kept
 use Rattle.caf_actor.proofs.QuitLemmas.{stays_one}
 use Rattle.caf_actor.proofs.SimpleLemmas as simple
-use Rattle.caf_carriers.proofs.CountLemmas.{one, count-cons, count-append, count-last, count-parts, same_number, self_same}
+use Rattle.caf_carriers.proofs.CountLemmas.{one, count-cons, count-append, count-parts}
 
 -- ---- which envelopes
 

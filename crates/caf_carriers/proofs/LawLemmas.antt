@@ -1,5 +1,5 @@
 -- What is said of the requests of any run.
-use Rattle.std.proofs.Common.{◌≡◌, ◌≢◌, ℕ, zero, suc, ◌+◌, ◌≤◌, ◌<◌, ◌∙◌, sym, ap, subst, ◌==◌, ◌&&◌, ◌||◌, nat_le, nat_lt, Bool, true, false, List, [], ◌∷◌, ◌++◌, count_by, Option, Some, None, refl, arith}
+use Rattle.std.proofs.Common.{◌≡◌, ℕ, ◌+◌, ◌≤◌, ◌<◌, sym, ap, subst, ◌||◌, Bool, true, false, List, [], ◌∷◌, ◌++◌, count_by, refl, arith}
 use Rattle.std.specs.List.{AllByRecursion, list_any}
 use Rattle.std.proofs.lemmas.Bool.Decides.{nat_tests}
 use Rattle.caf_message.specs.declared.envelope.Taken.{Taken}
@@ -10,10 +10,10 @@ use Rattle.caf_actor.specs.Eligibility.{is_eligible}
 use Rattle.caf_actor.specs.Quitting.{all_cached}
 use Rattle.caf_actor.specs.Record.{Machine, machine_of, IsStill, sum_below}
 use Rattle.caf_actor.specs.Run.{State, Step, Take, Speak, step, run, IsPossible, IsRun, opening_state}
-use Rattle.caf_actor.specs.Resolutions.{Resolution, times_resolved, times_answered, given_between}
-use Rattle.caf_actor.specs.Carriers.{carries, carriers_at, carriers, waits, due_counts, IsCarried, AreFresh, end_of, resolutions_of, OneCarrier, CarrierArises, ResolvesOnce, WaitsOrIsResolved, StandsInOnePlace}
+use Rattle.caf_actor.specs.Resolutions.{times_resolved, times_answered, given_between}
+use Rattle.caf_actor.specs.Carriers.{carries, carriers_at, carriers, AreFresh, end_of, resolutions_of, OneCarrier, CarrierArises, ResolvesOnce, WaitsOrIsResolved, StandsInOnePlace}
 use Rattle.caf_actor.proofs.ResolutionLemmas.{carriers_rest}
-use Rattle.caf_carriers.proofs.CountLemmas.{one, count-cons, given_most, none_given}
+use Rattle.caf_carriers.proofs.CountLemmas.{one, count-cons, given_most}
 use Rattle.caf_carriers.proofs.RunLemmas.{InOrder, arises_after}
 use Rattle.caf_carriers.proofs.StepLemmas.{same_carriers, Kept, kept_run, order_opening, counted_opening}
 
@@ -148,8 +148,7 @@ module _ {S : Type 0} (valid : S → Type 0) (rules : Rules S) (stays : StaysVal
       let still_here : IsStill (machine_of rules) end.places end.snapshot end.waiting = subst (λ (k : ℕ). IsStill (machine_of rules) k end.snapshot end.waiting) (sym places_are) still in
       let rest = carriers_rest rules valid end still_here in
       let all = rest.0 a n in
-      let sum_same : sum_below end.places (λ p. carriers_at a n (end.snapshot p)) ≡ sum_below places (λ p. carriers_at a n (end.snapshot p)) = ap (λ (k : ℕ). sum_below k (λ p. carriers_at a n (end.snapshot p))) places_are in
-      (
+      let sum_same : sum_below end.places (λ p. carriers_at a n (end.snapshot p)) ≡ sum_below places (λ p. carriers_at a n (end.snapshot p)) = ap (λ (k : ℕ). sum_below k (λ p. carriers_at a n (end.snapshot p))) places_are in (
         omega arith,
         λ p less. carried_too (is_eligible rules (end.snapshot p)) a n (all_cached (end.snapshot p).caches) (rest.1 p (subst (λ (k : ℕ). p < k) (sym places_are) less)),
       )

@@ -1,7 +1,6 @@
 -- One actor beside a closer, and the closer itself: no content is sent to place 0, which holds nothing and never quits.
-use Rattle.std.proofs.Common.{◌≡◌, ◌≢◌, ℕ, zero, suc, ◌+◌, ◌≤◌, ◌<◌, ◌∙◌, sym, ap, subst, ◌==◌, ◌&&◌, not, nat_le, nat_lt, bytes_eq, Bool, true, false, if◌then◌else◌, List, [], ◌∷◌, ◌++◌, length, Option, Some, None, is_none, refl, arith, ◌⊎◌, inl, inr}
+use Rattle.std.proofs.Common.{◌≡◌, ◌≢◌, ℕ, zero, suc, ◌∙◌, sym, ap, subst, ◌==◌, ◌&&◌, not, nat_le, bytes_eq, Bool, true, false, if◌then◌else◌, List, [], ◌∷◌, length, Option, Some, None, is_none, refl, ◌⊎◌, inl, inr}
 use Rattle.std.specs.List.{AllByRecursion}
-use Rattle.std.proofs.lemmas.Bool.Decides.{nat_tests}
 use Rattle.caf_types.specs.declared.notice.Mid.{Mid}
 use Rattle.caf_types.specs.declared.notice.Notice.{Notice}
 use Rattle.caf_types.specs.declared.notice.Notice.TheVariants as notice
@@ -15,12 +14,12 @@ use Rattle.caf_message.specs.declared.envelope.Taken.{Taken}
 use Rattle.caf_message.specs.declared.envelope.Plain.{Plain}
 use Rattle.caf_message.specs.declared.envelope.Plain.TheVariants as «plain»
 use Rattle.caf_message.specs.Content.{ids_in}
-use Rattle.caf_message.specs.Envelope.{no_request, is_content_body, is_response_body}
+use Rattle.caf_message.specs.Envelope.{is_content_body}
 use Rattle.caf_mailbox.specs.Caches.{CachedLists, next_of}
 use Rattle.caf_mailbox.proofs.NextLemmas.{AllCached, all_append, all_next, all_filed}
 use Rattle.caf_response.specs.declared.pending.Waiting.{Waiting}
 use Rattle.caf_response.specs.Pending.{WaitingRequests, resolved}
-use Rattle.caf_response.specs.Delays.{PlainDelay, is_due_before, delayed, next_delay}
+use Rattle.caf_response.specs.Delays.{PlainDelay, is_due_before, next_delay}
 use Rattle.caf_response.specs.Lines.{put_in}
 use Rattle.caf_response.specs.Promised.{Promised}
 use Rattle.caf_response.specs.Holds.{take_hold}
@@ -40,13 +39,13 @@ use Rattle.caf_actor.specs.Rules.{Rules, MayBeGiven, is_input, output_targets, a
 use Rattle.caf_actor.specs.Record.{SendsNothingTo}
 use Rattle.caf_actor.specs.Snapshot.{Handled, so_far, with_snapshot, cached}
 use Rattle.caf_actor.specs.Eligibility.{is_eligible, with_caches, next_envelope}
-use Rattle.caf_actor.specs.Sending.{post, posting, tell, tell_many, notify, reply, mid_of, may_issue, issue, issue_within, settle_hold, send_output, send_outputs}
-use Rattle.caf_actor.specs.Answering.{origin_of, is_asked, promised_to, refuse, answer_request, answer_tell, answer, with_held}
+use Rattle.caf_actor.specs.Sending.{post, posting, tell, tell_many, notify, reply, may_issue, issue, issue_within, settle_hold, send_output, send_outputs}
+use Rattle.caf_actor.specs.Answering.{origin_of, is_asked, promised_to, refuse, answer_request, answer_tell, answer}
 use Rattle.caf_actor.specs.Quitting.{shell_notice, handle_shell, shell_all, break_holds, all_cached, notify_all, emptied, quit_with, quit_where}
-use Rattle.caf_actor.specs.Reacting.{react, give, give_content}
+use Rattle.caf_actor.specs.Reacting.{react, give}
 use Rattle.caf_actor.specs.Ticking.{timeout_input, time_out, next_due, expire_for, due_count, expire_all, send_delayed, deliver_for, deliver_all, advance, hear_tick, handle_tick}
 use Rattle.caf_actor.specs.Handling.{handle_content, response_input, failure_input, resolve_with, begin, leave_for, handle_exit, handle_notice, handle_body, handle_where, handle_one}
-use Rattle.caf_actor.specs.Drain.{with_batch, drain_for, batch_of}
+use Rattle.caf_actor.specs.Drain.{with_batch, batch_of}
 use Rattle.caf_actor.proofs.DrainLemmas.{drain_keeps}
 
 -- content that is no response doesn't go to place 0

@@ -1,5 +1,5 @@
 -- What the laws of runs say of records.
-use Rattle.std.proofs.Common.{◌≡◌, ◌≢◌, ℕ, ◌+◌, ◌≤◌, ◌<◌, ◌∙◌, sym, ap, subst, true, false, List, [], ◌∷◌, ◌++◌, None, refl, arith}
+use Rattle.std.proofs.Common.{◌≡◌, ℕ, ◌<◌, ◌∙◌, sym, ap, subst, false, List, [], ◌∷◌, ◌++◌, None, arith}
 use Rattle.std.specs.List.{AllByRecursion}
 use Rattle.caf_response.specs.Pending.{waiting_count}
 use Rattle.caf_actor.specs.declared.snapshot.Snapshot.{Snapshot}
@@ -41,14 +41,14 @@ module _ {S : Type 0} (valid : S → Type 0) (rules : Rules S) (stays : StaysVal
     pub carried_requests : HasCarriedRequests valid rules ticks k ts
     carried_requests = record {
       carried = λ front rest e a n is_place positive.
-        one_carrier valid rules stays same peers answers ticks k.places k.start front begins
-        (front_runs (machine_of rules) ticks (opening_state k.places k.start) front rest (subst (λ bs. IsRun (machine_of rules) ticks (opening_state k.places k.start) bs) e runs)) a n is_place positive;
+          one_carrier valid rules stays same peers answers ticks k.places k.start front begins
+          (front_runs (machine_of rules) ticks (opening_state k.places k.start) front rest (subst (λ bs. IsRun (machine_of rules) ticks (opening_state k.places k.start) bs) e runs)) a n is_place positive;
       once = λ a n is_place. resolves_once valid rules stays same peers answers ticks k.places k.start (steps_of ts) begins runs a n is_place;
       as_declared = λ a. ends_as_declared rules valid ticks k.places k.start (steps_of ts) a;
       settled = λ a n is_place positive issued alive.
-        let all = waits_or_is_resolved valid rules stays same peers answers ticks k.places k.start (steps_of ts) begins runs a n is_place positive (issued_at_end a n issued) (alive_at_end a alive) in
-        let waits_same : waiting_count ((run (machine_of rules) ticks (opening_state k.places k.start) (steps_of ts)).snapshot a).pending n ≡ waiting_count (ends (machine_of rules) k a).pending n = ap (λ (u : Snapshot S). waiting_count u.pending n) (snapshot_is a) in
-        omega arith;
+          let all = waits_or_is_resolved valid rules stays same peers answers ticks k.places k.start (steps_of ts) begins runs a n is_place positive (issued_at_end a n issued) (alive_at_end a alive) in
+          let waits_same : waiting_count ((run (machine_of rules) ticks (opening_state k.places k.start) (steps_of ts)).snapshot a).pending n ≡ waiting_count (ends (machine_of rules) k a).pending n = ap (λ (u : Snapshot S). waiting_count u.pending n) (snapshot_is a) in
+          omega arith;
     }
 
     module _ (still : IsStill (machine_of rules) k.places (run (machine_of rules) ticks (opening_state k.places k.start) (steps_of ts)).snapshot (run (machine_of rules) ticks (opening_state k.places k.start) (steps_of ts)).waiting) where
@@ -68,7 +68,7 @@ module _ {S : Type 0} (valid : S → Type 0) (rules : Rules S) (stays : StaysVal
       pub standing_requests : HasStandingRequests valid rules ticks k ts
       standing_requests = record {
         one = λ a n is_place positive issued alive unresolved.
-          sym (sum_is a n) ∙ (stands_in_one_place valid rules stays same peers answers ticks k.places k.start (steps_of ts) begins runs still a n is_place positive (issued_at_end a n issued) (alive_at_end a alive) unresolved).0;
+            sym (sum_is a n) ∙ (stands_in_one_place valid rules stays same peers answers ticks k.places k.start (steps_of ts) begins runs still a n is_place positive (issued_at_end a n issued) (alive_at_end a alive) unresolved).0;
         idle = none_eligible;
       }
 

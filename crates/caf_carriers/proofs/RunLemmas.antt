@@ -1,23 +1,22 @@
 -- What is kept of a request in every state of a run.
-use Rattle.std.proofs.Common.{◌≡◌, ◌≢◌, ℕ, zero, suc, ◌+◌, ◌-◌, ◌≤◌, ◌<◌, ◌∙◌, sym, ap, subst, ◌==◌, ◌&&◌, Bool, true, false, if◌then◌else◌, List, [], ◌∷◌, ◌++◌, length, drop, count_by, cond, Option, Some, None, refl, arith, ◌⊎◌, inl, inr}
+use Rattle.std.proofs.Common.{◌≡◌, ◌≢◌, ℕ, zero, suc, ◌+◌, ◌-◌, ◌≤◌, ◌<◌, ◌∙◌, sym, ap, subst, ◌==◌, Bool, true, false, List, [], ◌∷◌, ◌++◌, length, drop, count_by, Option, Some, None, refl, arith, ◌⊎◌, inl, inr}
 use Rattle.std.specs.List.{AllByRecursion}
-use Rattle.std.proofs.lemmas.Bool.Decides.{nat_tests}
 use Rattle.caf_types.specs.declared.reason.Reason.{Reason}
 use Rattle.caf_message.specs.declared.envelope.Taken.{Taken}
-use Rattle.caf_message.specs.Envelope.{outside, start_envelope}
-use Rattle.caf_message.specs.Outside.{outside_envelope, notice_at}
+use Rattle.caf_message.specs.Envelope.{outside}
+use Rattle.caf_message.specs.Outside.{outside_envelope}
 use Rattle.caf_mailbox.proofs.NextLemmas.{AllCached, all_append}
-use Rattle.caf_response.specs.Pending.{WaitingRequests, waiting_count}
+use Rattle.caf_response.specs.Pending.{waiting_count}
 use Rattle.caf_actor.specs.declared.snapshot.Snapshot.{Snapshot}
 use Rattle.caf_actor.specs.PlainPost.{PlainPost}
 use Rattle.caf_actor.specs.Leads.{LeadsWithin, GoesWithin, StaysWithin}
 use Rattle.caf_actor.specs.Rules.{Rules, AnswersRequests, StaysValid, StaysSameActor, SendsToPeers}
 use Rattle.caf_actor.specs.Snapshot.{Handled}
 use Rattle.caf_actor.specs.Drain.{batch_of}
-use Rattle.caf_actor.specs.Record.{Machine, machine_of, IsPrefix, from_place, to_place, when, sum_below}
-use Rattle.caf_actor.specs.Run.{State, Turn, Step, Take, Speak, without, MayTake, take_batch, next_notice, send_notice, step, run, IsPossible, IsRun, opening_state}
-use Rattle.caf_actor.specs.Resolutions.{Resolution, batch_resolves, is_answer, has_request, times_resolved, times_answered, given_between}
-use Rattle.caf_actor.specs.Carriers.{carries, carriers_at, carriers_to, carriers, step_resolves, run_resolves}
+use Rattle.caf_actor.specs.Record.{machine_of, from_place, to_place, when}
+use Rattle.caf_actor.specs.Run.{State, Turn, Take, without, MayTake, take_batch}
+use Rattle.caf_actor.specs.Resolutions.{batch_resolves, times_resolved, times_answered, given_between}
+use Rattle.caf_actor.specs.Carriers.{carries, carriers_at, carriers, step_resolves}
 use Rattle.caf_actor.proofs.QuitLemmas.{none_after_quitting}
 use Rattle.caf_actor.proofs.SoundLemmas.{IsSound, within_batch, stays_within, posts_within}
 use Rattle.caf_actor.proofs.StampLemmas.{place_stays}
@@ -25,7 +24,7 @@ use Rattle.caf_record.proofs.BatchLemmas.{all_to}
 use Rattle.caf_record.proofs.ListLemmas.{all_left, all_drop, all_map}
 use Rattle.caf_carriers.specs.Counted.{IsCounted}
 use Rattle.caf_carriers.specs.Home.{BelongsTo, IsHome, GoesHome}
-use Rattle.caf_carriers.proofs.CountLemmas.{one, count-append, sum_same, more_given, self_same, same_number}
+use Rattle.caf_carriers.proofs.CountLemmas.{more_given, self_same, same_number}
 use Rattle.caf_carriers.proofs.DueLemmas.{DueWaits, due_waits}
 use Rattle.caf_carriers.proofs.BatchLemmas.{Facts, IsReady, on_batch}
 use Rattle.caf_carriers.proofs.TotalLemmas.{IsSender, eq_comm, total_step, part_of_all}
@@ -99,7 +98,6 @@ pub record InOrder {S : Type 0} (valid : S → Type 0) (rules : Rules S) (places
   pub senders : (x b : ℕ) → IsSender places x ⊎ (s.waiting x b ≡ [])
 
 module _ {S : Type 0} (valid : S → Type 0) (rules : Rules S) (stays : StaysValid valid rules) (same : StaysSameActor valid rules) (peers : SendsToPeers valid rules) (answers : AnswersRequests valid rules) where
-
   -- ---- a turn
 
   module _ (a n places : ℕ) (is_place : a < places) (s : State (Snapshot S)) (t : Turn) (may : MayTake (machine_of rules) s t) (order : InOrder valid rules places n s) where
@@ -319,12 +317,12 @@ module _ {S : Type 0} (valid : S → Type 0) (rules : Rules S) (stays : StaysVal
               cover = omega arith;
               once = omega arith;
               exact = λ alive.
-                let alive_now : (batch_of rules (s.snapshot t.place) t.batch.taken).snapshot.quit ≡ None = ap (λ (u : Snapshot S). u.quit) (sym played) ∙ alive in
-                let alive_then : (s.snapshot t.place).quit ≡ None = was (s.snapshot t.place).quit refl alive_now in
-                let alive_at : (s.snapshot a).quit ≡ None = ap (λ (x : ℕ). (s.snapshot x).quit) is ∙ alive_then in
-                let same_then = h.exact alive_at in
-                let same_now = f.exact alive_now in
-                omega arith;
+                  let alive_now : (batch_of rules (s.snapshot t.place) t.batch.taken).snapshot.quit ≡ None = ap (λ (u : Snapshot S). u.quit) (sym played) ∙ alive in
+                  let alive_then : (s.snapshot t.place).quit ≡ None = was (s.snapshot t.place).quit refl alive_now in
+                  let alive_at : (s.snapshot a).quit ≡ None = ap (λ (x : ℕ). (s.snapshot x).quit) is ∙ alive_then in
+                  let same_then = h.exact alive_at in
+                  let same_now = f.exact alive_now in
+                  omega arith;
             }
 
         go : (b : Bool) → (a == t.place) ≡ b

@@ -1,23 +1,22 @@
 -- From an opening state on, each request is counted.
-use Rattle.std.proofs.Common.{◌≡◌, ◌≢◌, ℕ, zero, suc, ◌+◌, ◌≤◌, ◌<◌, ◌∙◌, sym, ap, subst, ◌==◌, ◌&&◌, Bool, true, false, List, [], ◌∷◌, ◌++◌, length, count_by, Option, Some, None, refl, arith, ◌⊎◌, inl, inr}
+use Rattle.std.proofs.Common.{◌≡◌, ℕ, zero, suc, ◌+◌, ◌≤◌, ◌<◌, ◌∙◌, sym, ap, subst, ◌==◌, ◌&&◌, Bool, true, false, List, [], ◌∷◌, ◌++◌, length, count_by, refl, arith, ◌⊎◌, inl, inr}
 use Rattle.std.specs.Prelude.{Contains, slice_index_or}
 use Rattle.std.specs.List.{AllByRecursion}
-use Rattle.caf_message.specs.declared.envelope.Taken.{Taken}
 use Rattle.caf_message.specs.Envelope.{outside, start_envelope}
 use Rattle.caf_mailbox.proofs.NextLemmas.{all_append}
 use Rattle.caf_response.specs.Pending.{waiting_count}
 use Rattle.caf_actor.specs.declared.snapshot.Snapshot.{Snapshot}
 use Rattle.caf_actor.specs.Leads.{LeadsWithin, StaysWithin}
-use Rattle.caf_actor.specs.Rules.{Rules, IsTarget, AnswersRequests, StaysValid, StaysSameActor, SendsToPeers}
+use Rattle.caf_actor.specs.Rules.{Rules, AnswersRequests, StaysValid, StaysSameActor, SendsToPeers}
 use Rattle.caf_actor.specs.Snapshot.{fresh}
 use Rattle.caf_actor.specs.Record.{Machine, machine_of, when, sum_below}
-use Rattle.caf_actor.specs.Run.{State, Turn, Step, Take, Speak, send_notice, next_notice, take_batch, step, run, IsPossible, IsRun, opening_state}
+use Rattle.caf_actor.specs.Run.{State, Step, Take, Speak, send_notice, next_notice, step, run, IsPossible, IsRun, opening_state}
 use Rattle.caf_actor.specs.Resolutions.{Resolution, is_answer, has_request, times_resolved, times_answered, given_between}
 use Rattle.caf_actor.specs.Carriers.{carries, carriers_at, carriers_to, carriers, step_resolves, run_resolves, AreFresh}
 use Rattle.caf_record.proofs.ListLemmas.{and_left}
 use Rattle.caf_carriers.specs.Counted.{IsCounted}
 use Rattle.caf_carriers.specs.Home.{IsHome}
-use Rattle.caf_carriers.proofs.CountLemmas.{one, count-cons, count-append, none_given, sum_same, sum_none, same_number}
+use Rattle.caf_carriers.proofs.CountLemmas.{count-cons, count-append, none_given, sum_same, sum_none, same_number}
 use Rattle.caf_carriers.proofs.TotalLemmas.{IsSender}
 use Rattle.caf_carriers.proofs.RunLemmas.{InOrder, no_response, leads_nowhere, order_after, counted_after}
 
@@ -59,7 +58,7 @@ module _ {S : Type 0} (valid : S → Type 0) (rules : Rules S) (ticks a n places
     due = h.due;
     waiting_home = λ x b. all_append (IsHome b) (s.waiting x b) (when ((outside == x) && (0 == b)) (next_notice (machine_of rules) ticks s ∷ [])) (h.waiting_home x b) (home b ((outside == x) && (0 == b)));
     waiting_within = λ x b.
-      all_append (LeadsWithin (λ q. q < places)) (s.waiting x b) (when ((outside == x) && (0 == b)) (next_notice (machine_of rules) ticks s ∷ [])) (h.waiting_within x b) (within ((outside == x) && (0 == b)));
+        all_append (LeadsWithin (λ q. q < places)) (s.waiting x b) (when ((outside == x) && (0 == b)) (next_notice (machine_of rules) ticks s ∷ [])) (h.waiting_within x b) (within ((outside == x) && (0 == b)));
     senders = λ x b. sender x b ((outside == x) && (0 == b)) refl (h.senders x b);
   }
     where

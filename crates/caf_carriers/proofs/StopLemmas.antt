@@ -1,9 +1,8 @@
 -- At Stop a closer sends an exit with `kill` to each other place.
-use Rattle.std.proofs.Common.{◌≡◌, ◌≢◌, ℕ, zero, suc, ◌+◌, ◌-◌, ◌≤◌, ◌<◌, ◌∙◌, sym, ap, subst, ◌==◌, ◌&&◌, Bool, true, false, if◌then◌else◌, List, [], ◌∷◌, ◌++◌, count_by, cond, Option, Some, None, refl, arith, ◌⊎◌, inl, inr}
+use Rattle.std.proofs.Common.{◌≡◌, ◌≢◌, ℕ, zero, suc, ◌+◌, ◌-◌, ◌≤◌, ◌<◌, ◌∙◌, sym, ap, subst, ◌==◌, Bool, true, false, List, [], ◌∷◌, count_by, Option, Some, None, refl, arith, ◌⊎◌, inl, inr}
 use Rattle.std.specs.List.{AllByRecursion}
 use Rattle.std.proofs.lemmas.Bool.Decides.{nat_tests}
 use Rattle.caf_types.specs.declared.notice.Mid.{Mid}
-use Rattle.caf_types.specs.declared.notice.Notice.{Notice}
 use Rattle.caf_types.specs.declared.notice.Notice.TheVariants as notice
 use Rattle.caf_types.specs.declared.notice.Priority.{Priority}
 use Rattle.caf_types.specs.declared.notice.Priority.TheVariants.{Urgent}
@@ -26,18 +25,17 @@ use Rattle.caf_actor.specs.Rules.{Rules, StaysValid, StaysSameActor, SendsToPeer
 use Rattle.caf_actor.specs.Record.{to_place, kills, IsCloser}
 use Rattle.caf_actor.specs.Snapshot.{Handled, so_far, with_snapshot, cached}
 use Rattle.caf_actor.specs.Eligibility.{is_eligible, with_caches, next_envelope}
-use Rattle.caf_actor.specs.Sending.{post, posting, notify, send_output, send_outputs}
+use Rattle.caf_actor.specs.Sending.{post, posting, send_output, send_outputs}
 use Rattle.caf_actor.specs.Answering.{origin_of}
-use Rattle.caf_actor.specs.Quitting.{quit_where}
 use Rattle.caf_actor.specs.Reacting.{react, give}
 use Rattle.caf_actor.specs.Handling.{handle_body, handle_where, handle_one}
-use Rattle.caf_actor.specs.Drain.{with_batch, drain_for, batch_of}
+use Rattle.caf_actor.specs.Drain.{with_batch, batch_of}
 use Rattle.caf_actor.proofs.DrainLemmas.{drain_keeps}
 use Rattle.caf_actor.proofs.KeptLemmas as kept
 use Rattle.caf_actor.proofs.SimpleLemmas as simple
 use Rattle.caf_record.proofs.BatchLemmas.{to_append}
 use Rattle.caf_carriers.proofs.CountLemmas.{one, count-cons, count-append, self_same}
-use Rattle.caf_carriers.proofs.PlaceLemmas.{IsFor, Outcome, Going, Left, acts_turn, acts_filed}
+use Rattle.caf_carriers.proofs.PlaceLemmas.{IsFor, Going, Left, acts_turn, acts_filed}
 use Rattle.caf_carriers.proofs.CloserLemmas.{WasFed, KnownAt, OutcomeAt, behaves_at, other_place}
 use Rattle.caf_carriers.proofs.KillLemmas.{is_kill, stops, listed, listed_next, listed_filed}
 
@@ -146,9 +144,10 @@ module _ {S : Type 0} (valid : S → Type 0) (rules : Rules S) (stays : StaysVal
   stop_turn t e is alive known = subst (λ (x : Option Reason). Stopping q rules (handle_where rules t x (origin_of e) e.body)) (sym alive) (stopped t (origin_of e) e.body is known)
 
   stopping_turn : (t : Handled S) (n : Taken × Snapshot S) → next_envelope rules t.snapshot ≡ Some n → AtZero t × Stopping q rules t → AtZero (handle_one rules (with_snapshot t n.1) n.0) × Stopping q rules (handle_one rules (with_snapshot t n.1) n.0)
-  stopping_turn t n e h =
-      (acts_turn 0 (◌≢◌ {A = ℕ} 0 0) (KnownAt valid rules (start 0) true) rules (behaves_at valid rules stays same peers places start closer 0 true refl) (other_place valid rules stays same peers places start closer 0) t n e h.0,
-        go (next_of (is_eligible rules t.snapshot) t.snapshot.caches) refl e)
+  stopping_turn t n e h = (
+    acts_turn 0 (◌≢◌ {A = ℕ} 0 0) (KnownAt valid rules (start 0) true) rules (behaves_at valid rules stays same peers places start closer 0 true refl) (other_place valid rules stays same peers places start closer 0) t n e h.0,
+    go (next_of (is_eligible rules t.snapshot) t.snapshot.caches) refl e,
+  )
     where
       taken : (r : Taken × CachedLists) → next_of (is_eligible rules t.snapshot) t.snapshot.caches ≡ Some r → AtZero t → Stopping q rules t → Stopping q rules (handle_one rules (with_snapshot t (record t.snapshot { caches = r.1 })) r.0)
       taken r f at k = by k

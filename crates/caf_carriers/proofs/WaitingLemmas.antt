@@ -1,6 +1,5 @@
 -- What issuing and resolving do to the waiting requests.
-use Rattle.std.proofs.Common.{◌≡◌, ℕ, ◌+◌, ◌∙◌, sym, ap, subst, ◌==◌, ◌||◌, Bool, true, false, List, [], ◌∷◌, ◌++◌, count_by, cond, Option, Some, None, refl, arith}
-use Rattle.std.specs.List.{list_any}
+use Rattle.std.proofs.Common.{◌≡◌, ℕ, ◌+◌, ap, subst, ◌==◌, Bool, true, false, List, [], ◌∷◌, count_by, Option, Some, None, refl, arith}
 use Rattle.caf_types.specs.declared.shape.TypeId.{TypeId}
 use Rattle.caf_message.specs.Lists.{pick}
 use Rattle.caf_response.specs.declared.pending.Mode.{Mode}

@@ -1,5 +1,5 @@
 -- What is said of the requests of a record.
-use Rattle.std.specs.Prelude.{◌≡◌, ℕ, ◌+◌, ◌<◌, ◌≤◌, true, false, List, ◌++◌, None}
+use Rattle.std.specs.Prelude.{◌≡◌, ℕ, ◌+◌, ◌<◌, ◌≤◌, false, List, ◌++◌, None}
 use Rattle.std.specs.List.{AllByRecursion}
 use Rattle.caf_response.specs.Pending.{waiting_count}
 use Rattle.caf_actor.specs.declared.snapshot.Snapshot.{Snapshot}
@@ -10,7 +10,7 @@ use Rattle.caf_actor.specs.Record.{Kept, machine_of, ends, sum_below, IsLegal, I
 use Rattle.caf_actor.specs.Run.{Turn, Step}
 use Rattle.caf_actor.specs.Merge.{IsMerge, steps_of}
 use Rattle.caf_actor.specs.Resolutions.{Ends, times_resolved, times_answered}
-use Rattle.caf_actor.specs.Carriers.{carries, carriers_at, IsCarried, AreFresh, end_of, resolutions_of}
+use Rattle.caf_actor.specs.Carriers.{carriers_at, IsCarried, AreFresh, end_of, resolutions_of}
 
 module _ {S : Type 0} (valid : S → Type 0) (rules : Rules S) (ticks : ℕ) (k : Kept (Snapshot S)) (ts : List Turn) where
   -- how often request `n` of place `a` is resolved in the run that the merge is
