@@ -175,9 +175,6 @@ pub record IsReady {S : Type 0} (p n : ℕ) (s : Snapshot S) (batch : List Taken
   pub batch_home : AllByRecursion (IsHome p) batch
   pub ended : (s.quit ≡ None) ⊎ (waiting_count s.pending n ≡ 0) × (s.pending.due ≡ [])
 
-pub in_batch : {S : Type 0} → ℕ → ℕ → Snapshot S → List Taken → ℕ
-in_batch a n s batch = carriers_at a n s + count_by (carries a n) batch
-
 module _ {S : Type 0} (valid : S → Type 0) (rules : Rules S) (answers : AnswersRequests valid rules) (stays : StaysValid valid rules) (a n p : ℕ) (own : Bool) (need rest : ℕ)
     (is_own : (p == a) ≡ own) (no_need : own ≡ true → need ≡ 0) where
   module _ (s : Snapshot S) (batch : List Taken) (positive : own ≡ true → 0 < s.pending.next) (ready : IsReady p n s batch)

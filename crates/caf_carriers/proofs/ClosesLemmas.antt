@@ -123,9 +123,6 @@ module _ {S : Type 0} (valid : S → Type 0) (rules : Rules S) (stays : StaysVal
 
     module _ (bs : List Step) (runs : IsRun (machine_of rules) ticks (opening_state places start) bs) (stopped : list_any takes_stop bs ≡ true)
         (still : IsStill (machine_of rules) places (run (machine_of rules) ticks (opening_state places start) bs).snapshot (run (machine_of rules) ticks (opening_state places start) bs).waiting) where
-      abbrev end : State (Snapshot S)
-      end = run (machine_of rules) ticks (opening_state places start) bs
-
       opens : (n : ℕ) → steps.Kept valid rules stays same peers answers ticks 0 n places is_place (opening_state places start) 0 0
       opens n = record { order = order_opening valid rules places start begins 0 n is_place; counted = counted_opening valid rules places start begins 0 n is_place }
 
@@ -154,9 +151,6 @@ module _ {S : Type 0} (valid : S → Type 0) (rules : Rules S) (stays : StaysVal
       none_at_other : (n q : ℕ) → 0 < q → q < places → carriers_at 0 n ((run (machine_of rules) ticks (opening_state places start) bs).snapshot q) ≡ 0
       none_at_other n q above below = go (closes.each q below)
         where
-          u : Snapshot S
-          u = (run (machine_of rules) ticks (opening_state places start) bs).snapshot q
-
           go : OutcomeAt valid rules stays same peers places (λ p. (start p).behavior) closer q (so_far ((run (machine_of rules) ticks (opening_state places start) bs).snapshot q) []) → carriers_at 0 n ((run (machine_of rules) ticks (opening_state places start) bs).snapshot q) ≡ 0
           go (Going h) = absurd (others_quit q above below h.quit_is)
           go (Left may why h) =

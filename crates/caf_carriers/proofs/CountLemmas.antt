@@ -98,9 +98,6 @@ sum_none (suc k) f h =
 not_same : (i j : ℕ) → i < j → (i == j) ≡ false
 not_same i j h = grind (arith, nat_tests)
 
-pub not_same' : (i j : ℕ) → j < i → (i == j) ≡ false
-not_same' i j h = grind (arith, nat_tests)
-
 pub self_same : (i : ℕ) → (i == i) ≡ true
 self_same i = grind (arith, nat_tests)
 

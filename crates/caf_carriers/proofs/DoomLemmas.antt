@@ -62,13 +62,7 @@ module _ {S : Type 0} (valid : S → Type 0) (rules : Rules S) (stays : StaysVal
   q_not_zero : (q == 0) ≡ false
   q_not_zero = grind (arith, nat_tests)
 
-  zero_not_q : (0 == q) ≡ false
-  zero_not_q = grind (arith, nat_tests)
-
   module _ (s : State (Snapshot S)) (t : Turn) (may : MayTake (machine_of rules) s t) (order : InOrder valid rules places n s) (closing : Closing valid rules stays same peers places start closer s) where
-    abbrev later : State (Snapshot S)
-    later = take_batch (machine_of rules) s t
-
     here : t.place < places
     here = subst (λ (k : ℕ). t.place < k) order.places_are may.place
 

@@ -650,9 +650,6 @@ module _ (a n p : ℕ) (own : Bool) (need rest made first before : ℕ) where
       on_exit : (c d w : ℕ) (t : Handled S) (from : ℕ) (why : Reason) → Inv None Any c d w t → Done c d w (handle_exit t from why)
       on_exit c d w t from why h = go (t.snapshot.place == 0)
         where
-          u : Handled S
-          u = with_snapshot t (record t.snapshot { observers = without_link t.snapshot.observers from })
-
           go : (b : Bool) → Done c d w (if b then t else leave_for (with_snapshot t (record t.snapshot { observers = without_link t.snapshot.observers from })) why)
           go true = Live h
           go false = on_leave c d w (with_snapshot t (record t.snapshot { observers = without_link t.snapshot.observers from })) why h
@@ -682,9 +679,6 @@ module _ (a n p : ℕ) (own : Bool) (need rest made first before : ℕ) where
           (on_response c d w w' t e.mid (λ w. failure_input w what) (belongs refl) weighs h found refl)
       on_body c d w w' t e v («plain».Content words) is weighs belongs h = go e.mid.response refl
         where
-          found : Option (Waiting × WaitingRequests)
-          found = resolved t.snapshot.pending e.mid.number
-
           -- both tests ask whether it is a response
           both : (b : Bool) → e.mid.response ≡ b
               → After c d w (if b then resolution_where (λ w. response_input w words) (resolved t.snapshot.pending e.mid.number) else [])

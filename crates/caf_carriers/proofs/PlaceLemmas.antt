@@ -361,9 +361,6 @@ module _ {S : Type 0} (p : ℕ) (Quits : Type 0) (Known : S → Type 0) where
         gone : (t.snapshot.place == 0) ≡ false → Quits
         gone e = leaves (ap (λ (x : ℕ). x == 0) (sym h.at) ∙ e)
 
-        u : Handled S
-        u = with_snapshot t (record t.snapshot { observers = without_link t.snapshot.observers from })
-
         leave : Quits → (why : Reason) → Outcome (leave_for (with_snapshot t (record t.snapshot { observers = without_link t.snapshot.observers from })) why)
         leave may reason.Normal = Going h
         leave may reason.UserShutdown = Left may _ (acts_quit_with (with_snapshot t (record t.snapshot { observers = without_link t.snapshot.observers from })) reason.UserShutdown h)

@@ -23,9 +23,6 @@ front_runs m ticks s (b ∷ front) rest h = (h.0, front_runs m ticks (step m tic
 
 module _ {S : Type 0} (valid : S → Type 0) (rules : Rules S) (stays : StaysValid valid rules) (same : StaysSameActor valid rules) (peers : SendsToPeers valid rules) (answers : AnswersRequests valid rules) where
   module _ (ticks : ℕ) (k : Kept (Snapshot S)) (ts : List Turn) (begins : AreFresh valid rules k.places k.start) (legal : IsLegal (machine_of rules) ticks k) (merge : IsMerge k ts) where
-    abbrev last : State (Snapshot S)
-    last = run (machine_of rules) ticks (opening_state k.places k.start) (steps_of ts)
-
     runs : IsRun (machine_of rules) ticks (opening_state k.places k.start) (steps_of ts)
     runs = (merge_runs (machine_of rules) (has_stamps rules) ticks k legal ts merge).0
 

@@ -101,18 +101,6 @@ module _ {S : Type 0} (valid : S → Type 0) (rules : Rules S) (stays : StaysVal
   -- ---- a turn
 
   module _ (a n places : ℕ) (is_place : a < places) (s : State (Snapshot S)) (t : Turn) (may : MayTake (machine_of rules) s t) (order : InOrder valid rules places n s) where
-    abbrev taken : List Taken
-    taken = t.batch.taken
-
-    abbrev old : Snapshot S
-    old = s.snapshot t.place
-
-    abbrev after : Handled S
-    after = batch_of rules (s.snapshot t.place) t.batch.taken
-
-    abbrev later : State (Snapshot S)
-    later = take_batch (machine_of rules) s t
-
     here : t.place < places
     here = subst (λ (k : ℕ). t.place < k) order.places_are may.place
 
