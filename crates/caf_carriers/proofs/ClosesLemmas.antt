@@ -123,87 +123,90 @@ module _ {S : Type 0} (valid : S → Type 0) (rules : Rules S) (stays : StaysVal
 
     module _ (bs : List Step) (runs : IsRun (machine_of rules) ticks (opening_state places start) bs) (stopped : list_any takes_stop bs ≡ true)
         (still : IsStill (machine_of rules) places (run (machine_of rules) ticks (opening_state places start) bs).snapshot (run (machine_of rules) ticks (opening_state places start) bs).waiting) where
+      abbrev end : State (Snapshot S)
+      end = run (machine_of rules) ticks (opening_state places start) bs
+
       opens : (n : ℕ) → steps.Kept valid rules stays same peers answers ticks 0 n places is_place (opening_state places start) 0 0
       opens n = record { order = order_opening valid rules places start begins 0 n is_place; counted = counted_opening valid rules places start begins 0 n is_place }
 
-      closes : Closes (run (machine_of rules) ticks (opening_state places start) bs)
+      closes : Closes end
       closes = closing_run 0 bs (opening_state places start) 0 0 runs (opens 0) (closing_opening valid rules stays same peers places start begins closer)
 
       at_end : (n : ℕ) → steps.Kept valid rules stays same peers answers ticks 0 n places is_place (end_of valid rules ticks places start bs) (0 + times_answered n (resolutions_of valid rules ticks places start bs 0)) (0 + times_resolved n (resolutions_of valid rules ticks places start bs 0))
       at_end n = kept_end valid rules stays same peers answers ticks places start bs begins runs 0 n is_place
 
-      places_are : (run (machine_of rules) ticks (opening_state places start) bs).places ≡ places
+      places_are : end.places ≡ places
       places_are = (at_end 0).order.places_are
 
-      still_here : IsStill (machine_of rules) (run (machine_of rules) ticks (opening_state places start) bs).places (run (machine_of rules) ticks (opening_state places start) bs).snapshot (run (machine_of rules) ticks (opening_state places start) bs).waiting
-      still_here = subst (λ (k : ℕ). IsStill (machine_of rules) k (run (machine_of rules) ticks (opening_state places start) bs).snapshot (run (machine_of rules) ticks (opening_state places start) bs).waiting) (sym places_are) still
+      still_here : IsStill (machine_of rules) end.places end.snapshot end.waiting
+      still_here = subst (λ (k : ℕ). IsStill (machine_of rules) k end.snapshot end.waiting) (sym places_are) still
 
-      pub others_quit : (q : ℕ) → 0 < q → q < places → ((run (machine_of rules) ticks (opening_state places start) bs).snapshot q).quit ≢ None
+      pub others_quit : (q : ℕ) → 0 < q → q < places → (end.snapshot q).quit ≢ None
       others_quit q above below =
-          has_quit valid rules stays same peers answers places (λ p. (start p).behavior) closer ticks 0 is_place q above below (run (machine_of rules) ticks (opening_state places start) bs) places_are still_here
+          has_quit valid rules stays same peers answers places (λ p. (start p).behavior) closer ticks 0 is_place q above below end places_are still_here
           (doomed_run valid rules stays same peers answers places (λ p. (start p).behavior) closer ticks 0 is_place q above below bs (opening_state places start) 0 0 runs (opens 0)
           (closing_opening valid rules stays same peers places start begins closer) (inr stopped))
 
-      idle : (p : ℕ) → p < places → AllByRecursion (λ e. is_eligible rules ((run (machine_of rules) ticks (opening_state places start) bs).snapshot p) e ≡ false) (all_cached ((run (machine_of rules) ticks (opening_state places start) bs).snapshot p).caches)
-      idle p less = (carriers_rest rules valid (run (machine_of rules) ticks (opening_state places start) bs) still_here).1 p (subst (λ (k : ℕ). p < k) (sym places_are) less)
+      idle : (p : ℕ) → p < places → AllByRecursion (λ e. is_eligible rules (end.snapshot p) e ≡ false) (all_cached (end.snapshot p).caches)
+      idle p less = (carriers_rest rules valid end still_here).1 p (subst (λ (k : ℕ). p < k) (sym places_are) less)
 
       -- another place has none
-      none_at_other : (n q : ℕ) → 0 < q → q < places → carriers_at 0 n ((run (machine_of rules) ticks (opening_state places start) bs).snapshot q) ≡ 0
+      none_at_other : (n q : ℕ) → 0 < q → q < places → carriers_at 0 n (end.snapshot q) ≡ 0
       none_at_other n q above below = go (closes.each q below)
         where
-          go : OutcomeAt valid rules stays same peers places (λ p. (start p).behavior) closer q (so_far ((run (machine_of rules) ticks (opening_state places start) bs).snapshot q) []) → carriers_at 0 n ((run (machine_of rules) ticks (opening_state places start) bs).snapshot q) ≡ 0
+          go : OutcomeAt valid rules stays same peers places (λ p. (start p).behavior) closer q (so_far (end.snapshot q) []) → carriers_at 0 n (end.snapshot q) ≡ 0
           go (Going h) = absurd (others_quit q above below h.quit_is)
           go (Left may why h) =
-              none_carried rules ((run (machine_of rules) ticks (opening_state places start) bs).snapshot q) 0 n (λ e c f. eligible_to_quit rules ((run (machine_of rules) ticks (opening_state places start) bs).snapshot q) (others_quit q above below) e)
+              none_carried rules (end.snapshot q) 0 n (λ e c f. eligible_to_quit rules (end.snapshot q) (others_quit q above below) e)
               (idle q below)
-              (subst (λ (x : ℕ). AllByRecursion (IsFor x) ((run (machine_of rules) ticks (opening_state places start) bs).snapshot q).caches.urgent) (sym h.at) h.listed.0)
-              (subst (λ (x : ℕ). AllByRecursion (IsFor x) ((run (machine_of rules) ticks (opening_state places start) bs).snapshot q).caches.normal) (sym h.at) h.listed.1)
+              (subst (λ (x : ℕ). AllByRecursion (IsFor x) (end.snapshot q).caches.urgent) (sym h.at) h.listed.0)
+              (subst (λ (x : ℕ). AllByRecursion (IsFor x) (end.snapshot q).caches.normal) (sym h.at) h.listed.1)
               (h.held tt)
 
       -- and place 0 has none of a request that is awaited, or of any where none is awaited
-      none_at_zero : (n : ℕ) → is_awaited (top_number ((run (machine_of rules) ticks (opening_state places start) bs).snapshot 0).pending.awaited) n ≡ true → carriers_at 0 n ((run (machine_of rules) ticks (opening_state places start) bs).snapshot 0) ≡ 0
+      none_at_zero : (n : ℕ) → is_awaited (top_number (end.snapshot 0).pending.awaited) n ≡ true → carriers_at 0 n (end.snapshot 0) ≡ 0
       none_at_zero n awaited = go (closes.each 0 is_place)
         where
-          go : OutcomeAt valid rules stays same peers places (λ p. (start p).behavior) closer 0 (so_far ((run (machine_of rules) ticks (opening_state places start) bs).snapshot 0) []) → carriers_at 0 n ((run (machine_of rules) ticks (opening_state places start) bs).snapshot 0) ≡ 0
+          go : OutcomeAt valid rules stays same peers places (λ p. (start p).behavior) closer 0 (so_far (end.snapshot 0) []) → carriers_at 0 n (end.snapshot 0) ≡ 0
           go (Left may why h) = absurd (may refl)
           go (Going h) =
-              none_carried rules ((run (machine_of rules) ticks (opening_state places start) bs).snapshot 0) 0 n
+              none_carried rules (end.snapshot 0) 0 n
               (λ e c f.
               let both = carried_response 0 n e c (subst (λ (x : ℕ). IsFor x e) h.at f) in
-              eligible_response rules ((run (machine_of rules) ticks (opening_state places start) bs).snapshot 0) h.quit_is (h.begun_is refl) e both.0
-              (subst (λ (k : ℕ). is_awaited (top_number ((run (machine_of rules) ticks (opening_state places start) bs).snapshot 0).pending.awaited) k ≡ true) (sym (same_number e.mid.number n both.1)) awaited))
+              eligible_response rules (end.snapshot 0) h.quit_is (h.begun_is refl) e both.0
+              (subst (λ (k : ℕ). is_awaited (top_number (end.snapshot 0).pending.awaited) k ≡ true) (sym (same_number e.mid.number n both.1)) awaited))
               (idle 0 is_place)
-              (subst (λ (x : ℕ). AllByRecursion (IsFor x) ((run (machine_of rules) ticks (opening_state places start) bs).snapshot 0).caches.urgent) (sym h.at) h.listed.0)
-              (subst (λ (x : ℕ). AllByRecursion (IsFor x) ((run (machine_of rules) ticks (opening_state places start) bs).snapshot 0).caches.normal) (sym h.at) h.listed.1)
+              (subst (λ (x : ℕ). AllByRecursion (IsFor x) (end.snapshot 0).caches.urgent) (sym h.at) h.listed.0)
+              (subst (λ (x : ℕ). AllByRecursion (IsFor x) (end.snapshot 0).caches.normal) (sym h.at) h.listed.1)
               (h.held refl)
 
-      none_waits : (n : ℕ) → is_awaited (top_number ((run (machine_of rules) ticks (opening_state places start) bs).snapshot 0).pending.awaited) n ≡ true → waiting_count ((run (machine_of rules) ticks (opening_state places start) bs).snapshot 0).pending n ≡ 0
+      none_waits : (n : ℕ) → is_awaited (top_number (end.snapshot 0).pending.awaited) n ≡ true → waiting_count (end.snapshot 0).pending n ≡ 0
       none_waits n awaited =
           let cover = (at_end n).counted.cover in
-          let all = (carriers_rest rules valid (run (machine_of rules) ticks (opening_state places start) bs) still_here).0 0 n in
-          let none : sum_below (run (machine_of rules) ticks (opening_state places start) bs).places (λ p. carriers_at 0 n ((run (machine_of rules) ticks (opening_state places start) bs).snapshot p)) ≡ 0 =
-          sum_none (run (machine_of rules) ticks (opening_state places start) bs).places (λ p. carriers_at 0 n ((run (machine_of rules) ticks (opening_state places start) bs).snapshot p)) (λ p less. each p (subst (λ (k : ℕ). p < k) places_are less)) in
+          let all = (carriers_rest rules valid end still_here).0 0 n in
+          let none : sum_below end.places (λ p. carriers_at 0 n (end.snapshot p)) ≡ 0 =
+          sum_none end.places (λ p. carriers_at 0 n (end.snapshot p)) (λ p less. each p (subst (λ (k : ℕ). p < k) places_are less)) in
           omega arith
         where
-          each : (p : ℕ) → p < places → carriers_at 0 n ((run (machine_of rules) ticks (opening_state places start) bs).snapshot p) ≡ 0
+          each : (p : ℕ) → p < places → carriers_at 0 n (end.snapshot p) ≡ 0
           each zero less = none_at_zero n awaited
           each (suc p) less = none_at_other n (suc p) (omega arith) less
 
-      pub nothing_waits : (n : ℕ) → waiting_count ((run (machine_of rules) ticks (opening_state places start) bs).snapshot 0).pending n ≡ 0
-      nothing_waits n = go ((run (machine_of rules) ticks (opening_state places start) bs).snapshot 0).pending.awaited refl
+      pub nothing_waits : (n : ℕ) → waiting_count (end.snapshot 0).pending n ≡ 0
+      nothing_waits n = go (end.snapshot 0).pending.awaited refl
         where
-          go : (ws : List Waiting) → ((run (machine_of rules) ticks (opening_state places start) bs).snapshot 0).pending.awaited ≡ ws → waiting_count ((run (machine_of rules) ticks (opening_state places start) bs).snapshot 0).pending n ≡ 0
+          go : (ws : List Waiting) → (end.snapshot 0).pending.awaited ≡ ws → waiting_count (end.snapshot 0).pending n ≡ 0
           go [] e = none_waits n (ap (λ us. is_awaited (top_number us) n) e)
           go (w ∷ ws) e =
-              let none : waiting_count ((run (machine_of rules) ticks (opening_state places start) bs).snapshot 0).pending w.number ≡ 0 = none_waits w.number (ap (λ us. is_awaited (top_number us) w.number) e ∙ self_same w.number) in
-              let count : count_by (has_number w.number) ((run (machine_of rules) ticks (opening_state places start) bs).snapshot 0).pending.awaited ≡ one (w.number == w.number) + count_by (has_number w.number) ws = ap (count_by (has_number w.number)) e ∙ count-cons (has_number w.number) w ws in
+              let none : waiting_count (end.snapshot 0).pending w.number ≡ 0 = none_waits w.number (ap (λ us. is_awaited (top_number us) w.number) e ∙ self_same w.number) in
+              let count : count_by (has_number w.number) (end.snapshot 0).pending.awaited ≡ one (w.number == w.number) + count_by (has_number w.number) ws = ap (count_by (has_number w.number)) e ∙ count-cons (has_number w.number) w ws in
               let here : one (w.number == w.number) ≡ 1 = ap one (self_same w.number) in
               absurd (omega arith)
 
-      pub zero_alive : ((run (machine_of rules) ticks (opening_state places start) bs).snapshot 0).quit ≡ None
+      pub zero_alive : (end.snapshot 0).quit ≡ None
       zero_alive = go (closes.each 0 is_place)
         where
-          go : OutcomeAt valid rules stays same peers places (λ p. (start p).behavior) closer 0 (so_far ((run (machine_of rules) ticks (opening_state places start) bs).snapshot 0) []) → ((run (machine_of rules) ticks (opening_state places start) bs).snapshot 0).quit ≡ None
+          go : OutcomeAt valid rules stays same peers places (λ p. (start p).behavior) closer 0 (so_far (end.snapshot 0) []) → (end.snapshot 0).quit ≡ None
           go (Going h) = h.quit_is
           go (Left may why h) = absurd (may refl)
 

@@ -63,25 +63,28 @@ module _ {S : Type 0} (valid : S → Type 0) (rules : Rules S) (stays : StaysVal
   q_not_zero = grind (arith, nat_tests)
 
   module _ (s : State (Snapshot S)) (t : Turn) (may : MayTake (machine_of rules) s t) (order : InOrder valid rules places n s) (closing : Closing valid rules stays same peers places start closer s) where
+    abbrev later : State (Snapshot S)
+    later = take_batch (machine_of rules) s t
+
     here : t.place < places
     here = subst (λ (k : ℕ). t.place < k) order.places_are may.place
 
-    other_same : (p : ℕ) → (p == t.place) ≡ false → (take_batch (machine_of rules) s t).snapshot p ≡ s.snapshot p
+    other_same : (p : ℕ) → (p == t.place) ≡ false → later.snapshot p ≡ s.snapshot p
     other_same p e = rw e refl
 
     -- ---- the closer's turn
 
-    by_closer : (0 == t.place) ≡ true → 1 ≤ listed stops (s.snapshot 0).caches + count_by stops t.batch.taken → IsDoomed q (take_batch (machine_of rules) s t)
+    by_closer : (0 == t.place) ≡ true → 1 ≤ listed stops (s.snapshot 0).caches + count_by stops t.batch.taken → IsDoomed q later
     by_closer e some =
         let is : 0 ≡ t.place = same_number 0 t.place e in
         let batch : AllByRecursion (IsFor 0) t.batch.taken =
         subst (λ (x : ℕ). AllByRecursion (IsFor x) t.batch.taken) (sym is) (of_batch valid rules stays same peers answers 0 n places is_place s t may order (IsFor t.place) (λ x. closing.waiting x t.place)) in
         go (stopping_batch valid rules stays same peers places start closer q above below (s.snapshot 0) t.batch.taken batch (closing.each 0 is_place) some)
       where
-        played : (take_batch (machine_of rules) s t).snapshot 0 ≡ (batch_of rules (s.snapshot 0) t.batch.taken).snapshot
+        played : later.snapshot 0 ≡ (batch_of rules (s.snapshot 0) t.batch.taken).snapshot
         played = rw e refl
 
-        go : (1 ≤ listed stops (batch_of rules (s.snapshot 0) t.batch.taken).snapshot.caches) ⊎ (1 ≤ kills_to q (batch_of rules (s.snapshot 0) t.batch.taken).posts) → IsDoomed q (take_batch (machine_of rules) s t)
+        go : (1 ≤ listed stops (batch_of rules (s.snapshot 0) t.batch.taken).snapshot.caches) ⊎ (1 ≤ kills_to q (batch_of rules (s.snapshot 0) t.batch.taken).posts) → IsDoomed q later
         go (inl left) = StopLeft (subst (λ (u : Snapshot S). 1 ≤ listed stops u.caches) (sym played) left)
         go (inr posted) =
             let sum = count-append is_kill (without (q == t.place) (from_place 0 t.batch.taken) (s.waiting 0 q)) (when (0 == t.place) (to_place q (batch_of rules (s.snapshot 0) t.batch.taken).posts)) in
@@ -91,20 +94,20 @@ module _ {S : Type 0} (valid : S → Type 0) (rules : Rules S) (stays : StaysVal
 
     -- ---- the turn of the place
 
-    by_place : (q == t.place) ≡ true → ((s.snapshot q).quit ≢ None) ⊎ (1 ≤ listed is_kill (s.snapshot q).caches + count_by is_kill t.batch.taken) → IsDoomed q (take_batch (machine_of rules) s t)
+    by_place : (q == t.place) ≡ true → ((s.snapshot q).quit ≢ None) ⊎ (1 ≤ listed is_kill (s.snapshot q).caches + count_by is_kill t.batch.taken) → IsDoomed q later
     by_place e some =
         let away : ((s.snapshot q).place == 0) ≡ false = ap (λ (x : ℕ). x == 0) (order.at q below) ∙ q_not_zero in
         go (dying_batch rules (s.snapshot q) t.batch.taken away some)
       where
-        played : (take_batch (machine_of rules) s t).snapshot q ≡ (batch_of rules (s.snapshot q) t.batch.taken).snapshot
+        played : later.snapshot q ≡ (batch_of rules (s.snapshot q) t.batch.taken).snapshot
         played = rw e refl
 
-        go : ((batch_of rules (s.snapshot q) t.batch.taken).snapshot.quit ≢ None) ⊎ (1 ≤ listed is_kill (batch_of rules (s.snapshot q) t.batch.taken).snapshot.caches) → IsDoomed q (take_batch (machine_of rules) s t)
+        go : ((batch_of rules (s.snapshot q) t.batch.taken).snapshot.quit ≢ None) ⊎ (1 ≤ listed is_kill (batch_of rules (s.snapshot q) t.batch.taken).snapshot.caches) → IsDoomed q later
         go (inl gone) = HasQuit (subst (λ (u : Snapshot S). u.quit ≢ None) (sym played) gone)
         go (inr left) = KillLeft (subst (λ (u : Snapshot S). 1 ≤ listed is_kill u.caches) (sym played) left)
 
     -- what waits from place 0 is taken, or waits still
-    by_taking : (q == t.place) ≡ true → 1 ≤ count_by is_kill (s.waiting 0 q) → IsDoomed q (take_batch (machine_of rules) s t)
+    by_taking : (q == t.place) ≡ true → 1 ≤ count_by is_kill (s.waiting 0 q) → IsDoomed q later
     by_taking e some =
         let is : q ≡ t.place = same_number q t.place e in
         let next : IsPrefix (from_place 0 t.batch.taken) (s.waiting 0 q) = subst (λ (x : ℕ). IsPrefix (from_place 0 t.batch.taken) (s.waiting 0 x)) (sym is) (may.next 0) in
@@ -121,45 +124,45 @@ module _ {S : Type 0} (valid : S → Type 0) (rules : Rules S) (stays : StaysVal
             → count_by is_kill (from_place 0 t.batch.taken ++ rest) ≡ count_by is_kill (s.waiting 0 q)
             → count_by is_kill (from_place 0 t.batch.taken ++ rest) ≡ count_by is_kill (from_place 0 t.batch.taken) + count_by is_kill rest
             → count_by is_kill (from_place 0 t.batch.taken) ≤ count_by is_kill t.batch.taken
-            → count_by is_kill ((take_batch (machine_of rules) s t).waiting 0 q)
+            → count_by is_kill (later.waiting 0 q)
             ≡ count_by is_kill (without (q == t.place) (from_place 0 t.batch.taken) (s.waiting 0 q)) + count_by is_kill (when (0 == t.place) (to_place q (batch_of rules (s.snapshot 0) t.batch.taken).posts))
             → count_by is_kill (without (q == t.place) (from_place 0 t.batch.taken) (s.waiting 0 q)) ≡ count_by is_kill rest
-            → IsDoomed q (take_batch (machine_of rules) s t)
+            → IsDoomed q later
         go zero k rest all sum less both count = KillSent (omega arith)
         go (suc m) k rest all sum less both count = by_place e (inr (omega arith))
 
     -- ---- any turn
 
-    waits_still : (q == t.place) ≡ false → 1 ≤ count_by is_kill (s.waiting 0 q) → IsDoomed q (take_batch (machine_of rules) s t)
+    waits_still : (q == t.place) ≡ false → 1 ≤ count_by is_kill (s.waiting 0 q) → IsDoomed q later
     waits_still e some =
         let both = count-append is_kill (without (q == t.place) (from_place 0 t.batch.taken) (s.waiting 0 q)) (when (0 == t.place) (to_place q (batch_of rules (s.snapshot 0) t.batch.taken).posts)) in
         let left : without (q == t.place) (from_place 0 t.batch.taken) (s.waiting 0 q) ≡ s.waiting 0 q = ap (λ (b : Bool). without b (from_place 0 t.batch.taken) (s.waiting 0 q)) e in
         let count = ap (count_by is_kill) left in
         KillSent (omega arith)
 
-    doomed_take : IsDoomed q s → IsDoomed q (take_batch (machine_of rules) s t)
+    doomed_take : IsDoomed q s → IsDoomed q later
     doomed_take (StopLeft some) = go (0 == t.place) refl
       where
-        go : (b : Bool) → (0 == t.place) ≡ b → IsDoomed q (take_batch (machine_of rules) s t)
+        go : (b : Bool) → (0 == t.place) ≡ b → IsDoomed q later
         go true e = by_closer e (omega arith)
         go false e = StopLeft (subst (λ (u : Snapshot S). 1 ≤ listed stops u.caches) (sym (other_same 0 e)) some)
     doomed_take (KillSent some) = go (q == t.place) refl
       where
-        go : (b : Bool) → (q == t.place) ≡ b → IsDoomed q (take_batch (machine_of rules) s t)
+        go : (b : Bool) → (q == t.place) ≡ b → IsDoomed q later
         go true e = by_taking e some
         go false e = waits_still e some
     doomed_take (KillLeft some) = go (q == t.place) refl
       where
-        go : (b : Bool) → (q == t.place) ≡ b → IsDoomed q (take_batch (machine_of rules) s t)
+        go : (b : Bool) → (q == t.place) ≡ b → IsDoomed q later
         go true e = by_place e (inr (omega arith))
         go false e = KillLeft (subst (λ (u : Snapshot S). 1 ≤ listed is_kill u.caches) (sym (other_same q e)) some)
     doomed_take (HasQuit gone) = go (q == t.place) refl
       where
-        go : (b : Bool) → (q == t.place) ≡ b → IsDoomed q (take_batch (machine_of rules) s t)
+        go : (b : Bool) → (q == t.place) ≡ b → IsDoomed q later
         go true e = by_place e (inl gone)
         go false e = HasQuit (subst (λ (u : Snapshot S). u.quit ≢ None) (sym (other_same q e)) gone)
 
-    doomed_by_stop : takes_stop (Take t) ≡ true → IsDoomed q (take_batch (machine_of rules) s t)
+    doomed_by_stop : takes_stop (Take t) ≡ true → IsDoomed q later
     doomed_by_stop e =
         let some = stop_counted t.batch.taken (and_right (0 == t.place) (holds_stop t.batch.taken) e) in
         by_closer (and_left (0 == t.place) (holds_stop t.batch.taken) e) (omega arith)

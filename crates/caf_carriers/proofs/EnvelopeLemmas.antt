@@ -58,10 +58,6 @@ carries_by response asked mine body = ((is_content_body response body && asked) 
 abbrev pub carries_as : ℕ → ℕ → Mid → Plain → Bool
 carries_as a n mid body = carries_by mid.response (nat_lt 0 mid.number) (is_mid a n mid) body
 
-and_false : (b : Bool) → (b && false) ≡ false
-and_false true = refl
-and_false false = refl
-
 -- ---- what is kept for request `n` of place `a` at place `p`
 
 -- `own` says whether it is the requester's place; elsewhere `need` carriers are wanted, `rest` of them are at

@@ -23,16 +23,19 @@ front_runs m ticks s (b ∷ front) rest h = (h.0, front_runs m ticks (step m tic
 
 module _ {S : Type 0} (valid : S → Type 0) (rules : Rules S) (stays : StaysValid valid rules) (same : StaysSameActor valid rules) (peers : SendsToPeers valid rules) (answers : AnswersRequests valid rules) where
   module _ (ticks : ℕ) (k : Kept (Snapshot S)) (ts : List Turn) (begins : AreFresh valid rules k.places k.start) (legal : IsLegal (machine_of rules) ticks k) (merge : IsMerge k ts) where
+    abbrev last : State (Snapshot S)
+    last = run (machine_of rules) ticks (opening_state k.places k.start) (steps_of ts)
+
     runs : IsRun (machine_of rules) ticks (opening_state k.places k.start) (steps_of ts)
     runs = (merge_runs (machine_of rules) (has_stamps rules) ticks k legal ts merge).0
 
-    snapshot_is : (p : ℕ) → (run (machine_of rules) ticks (opening_state k.places k.start) (steps_of ts)).snapshot p ≡ ends (machine_of rules) k p
+    snapshot_is : (p : ℕ) → last.snapshot p ≡ ends (machine_of rules) k p
     snapshot_is p = (merge_runs (machine_of rules) (has_stamps rules) ticks k legal ts merge).1.0.snapshots p
 
-    issued_at_end : (a n : ℕ) → n < (ends (machine_of rules) k a).pending.next → n < ((run (machine_of rules) ticks (opening_state k.places k.start) (steps_of ts)).snapshot a).pending.next
+    issued_at_end : (a n : ℕ) → n < (ends (machine_of rules) k a).pending.next → n < (last.snapshot a).pending.next
     issued_at_end a n h = subst (λ (u : Snapshot S). n < u.pending.next) (sym (snapshot_is a)) h
 
-    alive_at_end : (a : ℕ) → (ends (machine_of rules) k a).quit ≡ None → ((run (machine_of rules) ticks (opening_state k.places k.start) (steps_of ts)).snapshot a).quit ≡ None
+    alive_at_end : (a : ℕ) → (ends (machine_of rules) k a).quit ≡ None → (last.snapshot a).quit ≡ None
     alive_at_end a h = ap (λ (u : Snapshot S). u.quit) (snapshot_is a) ∙ h
 
     pub carried_requests : HasCarriedRequests valid rules ticks k ts
@@ -44,23 +47,23 @@ module _ {S : Type 0} (valid : S → Type 0) (rules : Rules S) (stays : StaysVal
       as_declared = λ a. ends_as_declared rules valid ticks k.places k.start (steps_of ts) a;
       settled = λ a n is_place positive issued alive.
           let all = waits_or_is_resolved valid rules stays same peers answers ticks k.places k.start (steps_of ts) begins runs a n is_place positive (issued_at_end a n issued) (alive_at_end a alive) in
-          let waits_same : waiting_count ((run (machine_of rules) ticks (opening_state k.places k.start) (steps_of ts)).snapshot a).pending n ≡ waiting_count (ends (machine_of rules) k a).pending n = ap (λ (u : Snapshot S). waiting_count u.pending n) (snapshot_is a) in
+          let waits_same : waiting_count (last.snapshot a).pending n ≡ waiting_count (ends (machine_of rules) k a).pending n = ap (λ (u : Snapshot S). waiting_count u.pending n) (snapshot_is a) in
           omega arith;
     }
 
-    module _ (still : IsStill (machine_of rules) k.places (run (machine_of rules) ticks (opening_state k.places k.start) (steps_of ts)).snapshot (run (machine_of rules) ticks (opening_state k.places k.start) (steps_of ts)).waiting) where
-      sum_is : (a n : ℕ) → sum_below k.places (λ p. carriers_at a n ((run (machine_of rules) ticks (opening_state k.places k.start) (steps_of ts)).snapshot p)) ≡ sum_below k.places (λ p. carriers_at a n (ends (machine_of rules) k p))
+    module _ (still : IsStill (machine_of rules) k.places last.snapshot last.waiting) where
+      sum_is : (a n : ℕ) → sum_below k.places (λ p. carriers_at a n (last.snapshot p)) ≡ sum_below k.places (λ p. carriers_at a n (ends (machine_of rules) k p))
       sum_is a n =
-          sum_same k.places (λ p. carriers_at a n ((run (machine_of rules) ticks (opening_state k.places k.start) (steps_of ts)).snapshot p)) (λ p. carriers_at a n (ends (machine_of rules) k p))
+          sum_same k.places (λ p. carriers_at a n (last.snapshot p)) (λ p. carriers_at a n (ends (machine_of rules) k p))
           (λ p less. ap (λ (u : Snapshot S). carriers_at a n u) (snapshot_is p))
 
       none_eligible : (p : ℕ) → p < k.places → AllByRecursion (λ e. is_eligible rules (ends (machine_of rules) k p) e ≡ false) (all_cached (ends (machine_of rules) k p).caches)
       none_eligible p less =
-          let places_are : (run (machine_of rules) ticks (opening_state k.places k.start) (steps_of ts)).places ≡ k.places = (kept_end valid rules stays same peers answers ticks k.places k.start (steps_of ts) begins runs p 0 less).order.places_are in
-          let still_here : IsStill (machine_of rules) (run (machine_of rules) ticks (opening_state k.places k.start) (steps_of ts)).places (run (machine_of rules) ticks (opening_state k.places k.start) (steps_of ts)).snapshot (run (machine_of rules) ticks (opening_state k.places k.start) (steps_of ts)).waiting =
-          subst (λ (m : ℕ). IsStill (machine_of rules) m (run (machine_of rules) ticks (opening_state k.places k.start) (steps_of ts)).snapshot (run (machine_of rules) ticks (opening_state k.places k.start) (steps_of ts)).waiting) (sym places_are) still in
+          let places_are : last.places ≡ k.places = (kept_end valid rules stays same peers answers ticks k.places k.start (steps_of ts) begins runs p 0 less).order.places_are in
+          let still_here : IsStill (machine_of rules) last.places last.snapshot last.waiting =
+          subst (λ (m : ℕ). IsStill (machine_of rules) m last.snapshot last.waiting) (sym places_are) still in
           subst (λ (u : Snapshot S). AllByRecursion (λ e. is_eligible rules u e ≡ false) (all_cached u.caches)) (snapshot_is p)
-          ((carriers_rest rules valid (run (machine_of rules) ticks (opening_state k.places k.start) (steps_of ts)) still_here).1 p (subst (λ (m : ℕ). p < m) (sym places_are) less))
+          ((carriers_rest rules valid last still_here).1 p (subst (λ (m : ℕ). p < m) (sym places_are) less))
 
       pub standing_requests : HasStandingRequests valid rules ticks k ts
       standing_requests = record {

@@ -101,6 +101,12 @@ module _ {S : Type 0} (valid : S → Type 0) (rules : Rules S) (stays : StaysVal
   -- ---- a turn
 
   module _ (a n places : ℕ) (is_place : a < places) (s : State (Snapshot S)) (t : Turn) (may : MayTake (machine_of rules) s t) (order : InOrder valid rules places n s) where
+    abbrev played : Handled S
+    played = batch_of rules (s.snapshot t.place) t.batch.taken
+
+    abbrev later : State (Snapshot S)
+    later = take_batch (machine_of rules) s t
+
     here : t.place < places
     here = subst (λ (k : ℕ). t.place < k) order.places_are may.place
 
@@ -130,11 +136,11 @@ module _ {S : Type 0} (valid : S → Type 0) (rules : Rules S) (stays : StaysVal
             empty [] ys q = tt
             empty (z ∷ xs) ys q = cc
 
-    sound : IsSound (λ q. q < places) (λ b. Unit {0}) valid rules (batch_of rules (s.snapshot t.place) t.batch.taken)
+    sound : IsSound (λ q. q < places) (λ b. Unit {0}) valid rules played
     sound = within_batch valid rules stays same peers (λ q. q < places) (s.snapshot t.place) t.batch.taken (order.occurs t.place here) (order.own t.place here) (order.within t.place here) batch_within
 
-    posts_go : AllByRecursion (GoesWithin (λ q. q < places)) (batch_of rules (s.snapshot t.place) t.batch.taken).posts
-    posts_go = posts_within valid rules stays same peers (λ q. q < places) (batch_of rules (s.snapshot t.place) t.batch.taken).posts sound.posts
+    posts_go : AllByRecursion (GoesWithin (λ q. q < places)) played.posts
+    posts_go = posts_within valid rules stays same peers (λ q. q < places) played.posts sound.posts
 
     -- ---- the counts of the batch
 
@@ -150,11 +156,11 @@ module _ {S : Type 0} (valid : S → Type 0) (rules : Rules S) (stays : StaysVal
     known_senders : AllByRecursion (λ e. IsSender s.places e.sender) t.batch.taken
     known_senders = subst (λ (k : ℕ). AllByRecursion (λ e. IsSender k e.sender) t.batch.taken) (sym order.places_are) batch_senders
 
-    known_targets : AllByRecursion (λ (q : PlainPost). q.to < s.places) (batch_of rules (s.snapshot t.place) t.batch.taken).posts
-    known_targets = subst (λ (k : ℕ). AllByRecursion (λ (q : PlainPost). q.to < k) (batch_of rules (s.snapshot t.place) t.batch.taken).posts) (sym order.places_are) (all_targets (λ q. q < places) _ posts_go)
+    known_targets : AllByRecursion (λ (q : PlainPost). q.to < s.places) played.posts
+    known_targets = subst (λ (k : ℕ). AllByRecursion (λ (q : PlainPost). q.to < k) played.posts) (sym order.places_are) (all_targets (λ q. q < places) _ posts_go)
 
-    total : carriers a n (take_batch (machine_of rules) s t) + made
-        ≡ carriers a n s + (carriers_at a n (batch_of rules (s.snapshot t.place) t.batch.taken).snapshot + count_by (λ (q : PlainPost). carries a n q.envelope) (batch_of rules (s.snapshot t.place) t.batch.taken).posts)
+    total : carriers a n later + made
+        ≡ carriers a n s + (carriers_at a n played.snapshot + count_by (λ (q : PlainPost). carries a n q.envelope) played.posts)
     total = total_step a n (machine_of rules) s t may.place few may.next known_senders known_targets
 
     part : made ≤ carriers a n s
@@ -166,36 +172,36 @@ module _ {S : Type 0} (valid : S → Type 0) (rules : Rules S) (stays : StaysVal
     -- by whether it is the requester's place
     facts_own : (t.place == a) ≡ true → 0 < (s.snapshot t.place).pending.next → waiting_count (s.snapshot t.place).pending n ≤ carriers a n s
         → Facts a n t.place true 0 others made (s.snapshot t.place).pending.next (waiting_count (s.snapshot t.place).pending n) (0 + times_answered n (batch_resolves rules (s.snapshot t.place) t.batch.taken))
-        (0 + times_resolved n (batch_resolves rules (s.snapshot t.place) t.batch.taken)) (batch_of rules (s.snapshot t.place) t.batch.taken)
+        (0 + times_resolved n (batch_resolves rules (s.snapshot t.place) t.batch.taken)) played
     facts_own q low cover =
         let less = part in
         on_batch valid rules answers stays a n t.place true 0 others q (λ e. refl) (s.snapshot t.place) t.batch.taken (λ e. low) ready (omega arith) (order.occurs t.place here)
 
     facts_other : (t.place == a) ≡ false → (need : ℕ) → need ≤ carriers a n s
-        → Facts a n t.place false need others made (s.snapshot t.place).pending.next 0 (0 + 0) (0 + 0) (batch_of rules (s.snapshot t.place) t.batch.taken)
+        → Facts a n t.place false need others made (s.snapshot t.place).pending.next 0 (0 + 0) (0 + 0) played
     facts_other q need cover =
         let less = part in
         on_batch valid rules answers stays a n t.place false need others q (λ e. cc) (s.snapshot t.place) t.batch.taken (λ e. cc) ready (omega arith) (order.occurs t.place here)
 
     -- ---- the snapshots after it
 
-    pub snapshot_after : (p : ℕ) → (p == t.place) ≡ true → (take_batch (machine_of rules) s t).snapshot p ≡ (batch_of rules (s.snapshot t.place) t.batch.taken).snapshot
+    pub snapshot_after : (p : ℕ) → (p == t.place) ≡ true → later.snapshot p ≡ played.snapshot
     snapshot_after p q = rw q (ap (λ (x : ℕ). (batch_of rules (s.snapshot x) t.batch.taken).snapshot) (same_number p t.place q))
 
-    pub at_each : (P : ℕ → Snapshot S → Type 0) → P t.place (batch_of rules (s.snapshot t.place) t.batch.taken).snapshot → ((p : ℕ) → p < places → P p (s.snapshot p)) → (p : ℕ) → p < places → P p ((take_batch (machine_of rules) s t).snapshot p)
+    pub at_each : (P : ℕ → Snapshot S → Type 0) → P t.place played.snapshot → ((p : ℕ) → p < places → P p (s.snapshot p)) → (p : ℕ) → p < places → P p (later.snapshot p)
     at_each P mine others p less = go (p == t.place) refl
       where
-        go : (b : Bool) → (p == t.place) ≡ b → P p ((take_batch (machine_of rules) s t).snapshot p)
+        go : (b : Bool) → (p == t.place) ≡ b → P p (later.snapshot p)
         go true q =
             let is : p ≡ t.place = same_number p t.place q in
-            let there : P p (batch_of rules (s.snapshot t.place) t.batch.taken).snapshot = subst (λ (x : ℕ). P x (batch_of rules (s.snapshot t.place) t.batch.taken).snapshot) (sym is) mine in
+            let there : P p played.snapshot = subst (λ (x : ℕ). P x played.snapshot) (sym is) mine in
             subst (λ (u : Snapshot S). P p u) (sym (snapshot_after p q)) there
         go false q = rw q (others p less)
 
     -- ---- what waits after it
 
-    pub all_waiting : (P : ℕ → Taken → Type 0) → ((x b : ℕ) → AllByRecursion (P b) (s.waiting x b)) → ((b : ℕ) → AllByRecursion (P b) (to_place b (batch_of rules (s.snapshot t.place) t.batch.taken).posts))
-        → (x b : ℕ) → AllByRecursion (P b) ((take_batch (machine_of rules) s t).waiting x b)
+    pub all_waiting : (P : ℕ → Taken → Type 0) → ((x b : ℕ) → AllByRecursion (P b) (s.waiting x b)) → ((b : ℕ) → AllByRecursion (P b) (to_place b played.posts))
+        → (x b : ℕ) → AllByRecursion (P b) (later.waiting x b)
     all_waiting P old new x b =
         all_append (P b) (without (b == t.place) (from_place x t.batch.taken) (s.waiting x b)) (when (x == t.place) (to_place b (batch_of rules (s.snapshot x) t.batch.taken).posts)) (left (b == t.place)) (news (x == t.place) refl)
       where
@@ -207,7 +213,7 @@ module _ {S : Type 0} (valid : S → Type 0) (rules : Rules S) (stays : StaysVal
         news true q = rw q (subst (λ (y : ℕ). AllByRecursion (P b) (to_place b (batch_of rules (s.snapshot y) t.batch.taken).posts)) (sym (same_number x t.place q)) (new b))
         news false q = rw q tt
 
-    senders_after : (x b : ℕ) → IsSender places x ⊎ ((take_batch (machine_of rules) s t).waiting x b ≡ [])
+    senders_after : (x b : ℕ) → IsSender places x ⊎ (later.waiting x b ≡ [])
     senders_after x b = go (order.senders x b) (x == t.place) refl
       where
         drop_none : (c : Bool) (es : List Taken) → without c es [] ≡ []
@@ -218,7 +224,7 @@ module _ {S : Type 0} (valid : S → Type 0) (rules : Rules S) (stays : StaysVal
             none_left (suc k) = refl
         drop_none false es = refl
 
-        go : IsSender places x ⊎ (s.waiting x b ≡ []) → (c : Bool) → (x == t.place) ≡ c → IsSender places x ⊎ ((take_batch (machine_of rules) s t).waiting x b ≡ [])
+        go : IsSender places x ⊎ (s.waiting x b ≡ []) → (c : Bool) → (x == t.place) ≡ c → IsSender places x ⊎ (later.waiting x b ≡ [])
         go (inl is) c q = inl is
         go (inr none) true q = inl (inl (subst (λ (y : ℕ). y < places) (sym (same_number x t.place q)) here))
         go (inr none) false q =
@@ -228,24 +234,24 @@ module _ {S : Type 0} (valid : S → Type 0) (rules : Rules S) (stays : StaysVal
     -- ---- together
 
     abbrev Homes : Type 0
-    Homes = AllCached (IsHome t.place) (batch_of rules (s.snapshot t.place) t.batch.taken).snapshot.caches
-        × (((batch_of rules (s.snapshot t.place) t.batch.taken).snapshot.quit ≡ None) ⊎ (waiting_count (batch_of rules (s.snapshot t.place) t.batch.taken).snapshot.pending n ≡ 0) × ((batch_of rules (s.snapshot t.place) t.batch.taken).snapshot.pending.due ≡ []))
-        × AllByRecursion GoesHome (batch_of rules (s.snapshot t.place) t.batch.taken).posts
+    Homes = AllCached (IsHome t.place) played.snapshot.caches
+        × ((played.snapshot.quit ≡ None) ⊎ (waiting_count played.snapshot.pending n ≡ 0) × (played.snapshot.pending.due ≡ []))
+        × AllByRecursion GoesHome played.posts
 
-    pub order_after : 1 ≤ (s.snapshot a).pending.next → waiting_count (s.snapshot a).pending n ≤ carriers a n s → InOrder valid rules places n (take_batch (machine_of rules) s t)
+    pub order_after : 1 ≤ (s.snapshot a).pending.next → waiting_count (s.snapshot a).pending n ≤ carriers a n s → InOrder valid rules places n later
     order_after low cover = record {
       places_are = order.places_are;
       few = order.few;
       at = at_each (λ p u. u.place ≡ p) (place_stays rules (s.snapshot t.place) t.batch.taken ∙ order.at t.place here) order.at;
       occurs = at_each (λ p u. valid u.behavior) sound.valid order.occurs;
       own = at_each (λ p u. rules.place u.behavior ≡ u.place) sound.own order.own;
-      within = at_each (λ p u. StaysWithin (λ q. q < places) rules u) (stays_within valid rules stays same peers (λ q. q < places) (batch_of rules (s.snapshot t.place) t.batch.taken) sound) order.within;
+      within = at_each (λ p u. StaysWithin (λ q. q < places) rules u) (stays_within valid rules stays same peers (λ q. q < places) played sound) order.within;
       home = at_each (λ p u. AllCached (IsHome p) u.caches) homes.0 order.home;
       ended = at_each (λ p u. (u.quit ≡ None) ⊎ (waiting_count u.pending n ≡ 0) × (u.pending.due ≡ [])) homes.1 order.ended;
       due = at_each (λ p u. DueWaits n u.pending) (due_waits rules n (s.snapshot t.place) t.batch.taken (order.due t.place here)) order.due;
-      waiting_home = all_waiting (λ b. IsHome b) order.waiting_home (λ b. home_to b (batch_of rules (s.snapshot t.place) t.batch.taken).posts homes.2);
+      waiting_home = all_waiting (λ b. IsHome b) order.waiting_home (λ b. home_to b played.posts homes.2);
       waiting_within = all_waiting (λ b. LeadsWithin (λ q. q < places)) order.waiting_within
-          (λ b. all_to (LeadsWithin (λ q. q < places)) b (batch_of rules (s.snapshot t.place) t.batch.taken).posts (all_leads (λ q. q < places) (batch_of rules (s.snapshot t.place) t.batch.taken).posts posts_go));
+          (λ b. all_to (LeadsWithin (λ q. q < places)) b played.posts (all_leads (λ q. q < places) played.posts posts_go));
       senders = senders_after;
     }
       where
@@ -261,10 +267,10 @@ module _ {S : Type 0} (valid : S → Type 0) (rules : Rules S) (stays : StaysVal
             go false q = let f = facts_other q 0 (omega arith) in (f.home, f.ended, f.goes)
 
     pub counted_after : (c d : ℕ) → IsCounted a n s c d
-        → IsCounted a n (take_batch (machine_of rules) s t) (c + times_answered n (step_resolves rules a s (Take t))) (d + times_resolved n (step_resolves rules a s (Take t)))
+        → IsCounted a n later (c + times_answered n (step_resolves rules a s (Take t))) (d + times_resolved n (step_resolves rules a s (Take t)))
     counted_after c d h = go (a == t.place) refl
       where
-        was : (q : Option Reason) → (s.snapshot t.place).quit ≡ q → (batch_of rules (s.snapshot t.place) t.batch.taken).snapshot.quit ≡ None → (s.snapshot t.place).quit ≡ None
+        was : (q : Option Reason) → (s.snapshot t.place).quit ≡ q → played.snapshot.quit ≡ None → (s.snapshot t.place).quit ≡ None
         was None e alive = e
         was (Some why) e alive =
             let some : (s.snapshot t.place).quit ≢ None = λ no. let wrong : Some why ≡ None = sym e ∙ no in cc in
@@ -272,7 +278,7 @@ module _ {S : Type 0} (valid : S → Type 0) (rules : Rules S) (stays : StaysVal
             let wrong : Some why ≡ None = sym e ∙ (sym stayed ∙ alive) in cc
 
         own_turn : a ≡ t.place → (a == t.place) ≡ true
-            → IsCounted a n (take_batch (machine_of rules) s t) (c + times_answered n (step_resolves rules a s (Take t))) (d + times_resolved n (step_resolves rules a s (Take t)))
+            → IsCounted a n later (c + times_answered n (step_resolves rules a s (Take t))) (d + times_resolved n (step_resolves rules a s (Take t)))
         own_turn is q =
             let home : (t.place == a) ≡ true = eq_comm t.place a ∙ q in
             let cover_here : waiting_count (s.snapshot t.place).pending n ≤ carriers a n s = subst (λ (x : ℕ). waiting_count (s.snapshot x).pending n ≤ carriers a n s) is h.cover in
@@ -284,20 +290,20 @@ module _ {S : Type 0} (valid : S → Type 0) (rules : Rules S) (stays : StaysVal
             let f_cover = f.cover in
             let f_once = f.once in
             let f_low = f.low in
-            let played : (take_batch (machine_of rules) s t).snapshot a ≡ (batch_of rules (s.snapshot t.place) t.batch.taken).snapshot = snapshot_after a q in
+            let is_played : later.snapshot a ≡ played.snapshot = snapshot_after a q in
             let resolved_now : step_resolves rules a s (Take t) ≡ batch_resolves rules (s.snapshot t.place) t.batch.taken = rw q (ap (λ (x : ℕ). batch_resolves rules (s.snapshot x) t.batch.taken) is) in
             let c_same : times_answered n (step_resolves rules a s (Take t)) ≡ times_answered n (batch_resolves rules (s.snapshot t.place) t.batch.taken) = ap (times_answered n) resolved_now in
             let d_same : times_resolved n (step_resolves rules a s (Take t)) ≡ times_resolved n (batch_resolves rules (s.snapshot t.place) t.batch.taken) = ap (times_resolved n) resolved_now in
-            let next_now : ((take_batch (machine_of rules) s t).snapshot a).pending.next ≡ (batch_of rules (s.snapshot t.place) t.batch.taken).snapshot.pending.next = ap (λ (u : Snapshot S). u.pending.next) played in
+            let next_now : (later.snapshot a).pending.next ≡ played.snapshot.pending.next = ap (λ (u : Snapshot S). u.pending.next) is_played in
             let next_was : (s.snapshot a).pending.next ≡ (s.snapshot t.place).pending.next = ap (λ (x : ℕ). (s.snapshot x).pending.next) is in
-            let waits_now : waiting_count ((take_batch (machine_of rules) s t).snapshot a).pending n ≡ waiting_count (batch_of rules (s.snapshot t.place) t.batch.taken).snapshot.pending n = ap (λ (u : Snapshot S). waiting_count u.pending n) played in
+            let waits_now : waiting_count (later.snapshot a).pending n ≡ waiting_count played.snapshot.pending n = ap (λ (u : Snapshot S). waiting_count u.pending n) is_played in
             let waits_was : waiting_count (s.snapshot a).pending n ≡ waiting_count (s.snapshot t.place).pending n = ap (λ (x : ℕ). waiting_count (s.snapshot x).pending n) is in
             let low = h.low in
             let most = h.most in
             let once = h.once in
             let low_here : 1 ≤ (s.snapshot t.place).pending.next = omega arith in
-            let more = more_given 1 (s.snapshot t.place).pending.next (batch_of rules (s.snapshot t.place) t.batch.taken).snapshot.pending.next n low_here f.low in
-            let given_now : given_between 1 ((take_batch (machine_of rules) s t).snapshot a).pending.next n ≡ given_between 1 (batch_of rules (s.snapshot t.place) t.batch.taken).snapshot.pending.next n = ap (λ (k : ℕ). given_between 1 k n) next_now in
+            let more = more_given 1 (s.snapshot t.place).pending.next played.snapshot.pending.next n low_here f.low in
+            let given_now : given_between 1 (later.snapshot a).pending.next n ≡ given_between 1 played.snapshot.pending.next n = ap (λ (k : ℕ). given_between 1 k n) next_now in
             let given_was : given_between 1 (s.snapshot a).pending.next n ≡ given_between 1 (s.snapshot t.place).pending.next n = ap (λ (k : ℕ). given_between 1 k n) next_was in
             record {
               low = omega arith;
@@ -305,7 +311,7 @@ module _ {S : Type 0} (valid : S → Type 0) (rules : Rules S) (stays : StaysVal
               cover = omega arith;
               once = omega arith;
               exact = λ alive.
-                  let alive_now : (batch_of rules (s.snapshot t.place) t.batch.taken).snapshot.quit ≡ None = ap (λ (u : Snapshot S). u.quit) (sym played) ∙ alive in
+                  let alive_now : played.snapshot.quit ≡ None = ap (λ (u : Snapshot S). u.quit) (sym is_played) ∙ alive in
                   let alive_then : (s.snapshot t.place).quit ≡ None = was (s.snapshot t.place).quit refl alive_now in
                   let alive_at : (s.snapshot a).quit ≡ None = ap (λ (x : ℕ). (s.snapshot x).quit) is ∙ alive_then in
                   let same_then = h.exact alive_at in
@@ -314,7 +320,7 @@ module _ {S : Type 0} (valid : S → Type 0) (rules : Rules S) (stays : StaysVal
             }
 
         go : (b : Bool) → (a == t.place) ≡ b
-            → IsCounted a n (take_batch (machine_of rules) s t) (c + times_answered n (step_resolves rules a s (Take t))) (d + times_resolved n (step_resolves rules a s (Take t)))
+            → IsCounted a n later (c + times_answered n (step_resolves rules a s (Take t))) (d + times_resolved n (step_resolves rules a s (Take t)))
         go true q =
             own_turn (same_number a t.place q) q
         go false q =
@@ -326,13 +332,13 @@ module _ {S : Type 0} (valid : S → Type 0) (rules : Rules S) (stays : StaysVal
             let f_cover = f.cover in
             let most = h.most in
             let cover = h.cover in
-            let still : (take_batch (machine_of rules) s t).snapshot a ≡ s.snapshot a = rw q refl in
+            let still : later.snapshot a ≡ s.snapshot a = rw q refl in
             let none : step_resolves rules a s (Take t) ≡ [] = rw q refl in
             let answers_none : times_answered n (step_resolves rules a s (Take t)) ≡ 0 = ap (times_answered n) none in
             let resolves_none : times_resolved n (step_resolves rules a s (Take t)) ≡ 0 = ap (times_resolved n) none in
-            let next_same : ((take_batch (machine_of rules) s t).snapshot a).pending.next ≡ (s.snapshot a).pending.next = ap (λ (u : Snapshot S). u.pending.next) still in
-            let given_same : given_between 1 ((take_batch (machine_of rules) s t).snapshot a).pending.next n ≡ given_between 1 (s.snapshot a).pending.next n = ap (λ (k : ℕ). given_between 1 k n) next_same in
-            let waits_same : waiting_count ((take_batch (machine_of rules) s t).snapshot a).pending n ≡ waiting_count (s.snapshot a).pending n = ap (λ (u : Snapshot S). waiting_count u.pending n) still in
+            let next_same : (later.snapshot a).pending.next ≡ (s.snapshot a).pending.next = ap (λ (u : Snapshot S). u.pending.next) still in
+            let given_same : given_between 1 (later.snapshot a).pending.next n ≡ given_between 1 (s.snapshot a).pending.next n = ap (λ (k : ℕ). given_between 1 k n) next_same in
+            let waits_same : waiting_count (later.snapshot a).pending n ≡ waiting_count (s.snapshot a).pending n = ap (λ (u : Snapshot S). waiting_count u.pending n) still in
             let low = h.low in
             let once = h.once in
             record {
@@ -345,10 +351,10 @@ module _ {S : Type 0} (valid : S → Type 0) (rules : Rules S) (stays : StaysVal
 
     -- a carrier arises only where its request is issued
     pub arises_after : 1 ≤ (s.snapshot a).pending.next → waiting_count (s.snapshot a).pending n ≤ carriers a n s
-        → carriers a n (take_batch (machine_of rules) s t) ≤ carriers a n s + given_between (s.snapshot a).pending.next ((take_batch (machine_of rules) s t).snapshot a).pending.next n
+        → carriers a n later ≤ carriers a n s + given_between (s.snapshot a).pending.next (later.snapshot a).pending.next n
     arises_after low cover = go (a == t.place) refl
       where
-        go : (b : Bool) → (a == t.place) ≡ b → carriers a n (take_batch (machine_of rules) s t) ≤ carriers a n s + given_between (s.snapshot a).pending.next ((take_batch (machine_of rules) s t).snapshot a).pending.next n
+        go : (b : Bool) → (a == t.place) ≡ b → carriers a n later ≤ carriers a n s + given_between (s.snapshot a).pending.next (later.snapshot a).pending.next n
         go true q =
             let is : a ≡ t.place = same_number a t.place q in
             let low_here : 1 ≤ (s.snapshot t.place).pending.next = subst (λ (x : ℕ). 1 ≤ (s.snapshot x).pending.next) is low in
@@ -357,10 +363,10 @@ module _ {S : Type 0} (valid : S → Type 0) (rules : Rules S) (stays : StaysVal
             let f_most = f.most in
             let all = total in
             let less = part in
-            let next_now : ((take_batch (machine_of rules) s t).snapshot a).pending.next ≡ (batch_of rules (s.snapshot t.place) t.batch.taken).snapshot.pending.next = ap (λ (u : Snapshot S). u.pending.next) (snapshot_after a q) in
+            let next_now : (later.snapshot a).pending.next ≡ played.snapshot.pending.next = ap (λ (u : Snapshot S). u.pending.next) (snapshot_after a q) in
             let next_was : (s.snapshot a).pending.next ≡ (s.snapshot t.place).pending.next = ap (λ (x : ℕ). (s.snapshot x).pending.next) is in
-            let given : given_between (s.snapshot a).pending.next ((take_batch (machine_of rules) s t).snapshot a).pending.next n ≡ given_between (s.snapshot t.place).pending.next (batch_of rules (s.snapshot t.place) t.batch.taken).snapshot.pending.next n =
-            ap (λ (k : ℕ). given_between k ((take_batch (machine_of rules) s t).snapshot a).pending.next n) next_was ∙ ap (λ (k : ℕ). given_between (s.snapshot t.place).pending.next k n) next_now in
+            let given : given_between (s.snapshot a).pending.next (later.snapshot a).pending.next n ≡ given_between (s.snapshot t.place).pending.next played.snapshot.pending.next n =
+            ap (λ (k : ℕ). given_between k (later.snapshot a).pending.next n) next_was ∙ ap (λ (k : ℕ). given_between (s.snapshot t.place).pending.next k n) next_now in
             omega arith
         go false q =
             let f = facts_other (eq_comm t.place a ∙ q) 0 (omega arith) in

@@ -80,9 +80,6 @@ module _ (a n places : ℕ) where
 module _ (a n : ℕ) {S : Type 0} (m : Machine (Snapshot S)) (s : State (Snapshot S)) (t : Turn) (here : t.place < s.places) (few : s.places ≤ outside)
     (next : (x : ℕ) → IsPrefix (from_place x t.batch.taken) (s.waiting x t.place)) (senders : AllByRecursion (λ e. IsSender s.places e.sender) t.batch.taken)
     (targets : AllByRecursion (λ q. q.to < s.places) (m.play (s.snapshot t.place) t.batch.taken).1) where
-  abbrev posts : List PlainPost
-  posts = (m.play (s.snapshot t.place) t.batch.taken).1
-
   abbrev sent_to : ℕ → ℕ
   sent_to b = weigh a n s.places (to_place b (m.play (s.snapshot t.place) t.batch.taken).1)
 
