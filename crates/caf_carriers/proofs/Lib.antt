@@ -1,0 +1,17 @@
+pub mod CountLemmas
+pub mod WaitingLemmas
+pub mod EnvelopeLemmas
+pub mod BatchLemmas
+pub mod DueLemmas
+pub mod TotalLemmas
+pub mod RunLemmas
+pub mod StepLemmas
+pub mod LawLemmas
+pub mod PlaceLemmas
+pub mod CloserLemmas
+pub mod KillLemmas
+pub mod StopLemmas
+pub mod DoomLemmas
+pub mod ClosesLemmas
+pub mod DeliveryLemmas
+pub mod RequestLemmas

@@ -1,0 +1,4 @@
+pub mod Home
+pub mod Counted
+pub mod Delivery
+pub mod Requests
