@@ -1,4 +1,4 @@
-use Rattle.std.proofs.Common.{◌≡◌, ◌∙◌, ◌+◌, [], ◌∷◌, ◌++◌, map, take, length, not, true, false, sym, ap, subst, arith}
+use Rattle.std.proofs.Common.{◌≡◌, ◌∙◌, ◌+◌, [], ◌∷◌, ◌++◌, map, take, length, not, sym, ap, subst, arith}
 use Rattle.caf_message.specs.Envelope.{plain_envelope, is_system, is_content}
 use Rattle.caf_mailbox.specs.Caches.{is_urgent, is_normal, is_urgent_priority}
 use Rattle.caf_mailbox.specs.Order.{AreBelow}

@@ -1,4 +1,4 @@
-use Rattle.std.proofs.Common.{◌≡◌, ◌∙◌, ◌∷◌, [], ◌++◌, Some, sym, ap, subst}
+use Rattle.std.proofs.Common.{◌∙◌, ◌∷◌, [], ◌++◌, sym, ap}
 use Rattle.std.specs.Prelude.{slice_get}
 use Rattle.caf_message.specs.Envelope.{plain_envelope}
 use Rattle.caf_mailbox.specs.Responses.{CachedResponses}
