@@ -1,13 +1,13 @@
 -- The responses of a line, as they are kept.
 use Rattle.std.proofs.Common.{◌≡◌, ◌∙◌, ℕ, zero, suc, ◌+◌, ◌-◌, ◌<◌, ◌≤◌, Bool, true, false, cond, List, [], ◌∷◌, ◌++◌, length, Option, Some, None, refl, sym, ap, subst, arith, length-append, if◌then◌else◌}
-use Rattle.std.specs.Prelude.{◌==◌, nat_le, IfSome, IfNone, IsSome, is_some, slice_get}
+use Rattle.std.specs.Prelude.{◌==◌, IfSome, IfNone, IsSome, is_some, slice_get}
 use Rattle.std.specs.List.{AllByRecursion}
 use Rattle.std.specs.List.Sorted.{IsStrictlySortedBy}
 use Rattle.std.specs.Option.{option_map}
-use Rattle.std.specs.Ordering.{nat_cmp, is_eq, is_gt, match_ordering, ordering_then}
+use Rattle.std.specs.Ordering.{nat_cmp, is_eq, is_gt, ordering_then}
 use Rattle.std.specs.declared.cmp.Ordering.{Ordering}
 use Rattle.std.specs.declared.cmp.Ordering.TheVariants.{Less, Equal, Greater}
-use Rattle.std.specs.Map.{lookup, remove_entry, set_value, keys_of}
+use Rattle.std.specs.Map.{remove_entry, set_value, keys_of}
 use Rattle.std.specs.BTreeMap.{insert_entry, is_at}
 use Rattle.std.proofs.lemmas.Bool.Decides.{nat_tests}
 use Rattle.std.proofs.lemmas.Map.Keys.{sorted_head, sorted_tail}

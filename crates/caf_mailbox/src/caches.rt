@@ -19,7 +19,7 @@ use std::marker::Model;
 /// As in CAF (the CAF manual), messages of high priority are handled before others, and a message
 /// that is skipped stays in its place until it may be handled. In each list the notices, the responses
 /// and the contents stand in queues of their own, so an actor that awaits a response passes over no
-/// content, and the first envelope leaves in constant time.
+/// content. The first notice or content leaves in constant time, and any response in logarithmic time.
 #[derive(Debug, Drop)]
 pub struct Caches {
     urgent: Line,

@@ -139,11 +139,7 @@ pub(crate) fn number_of(found: &Option<Found>) -> Option<u64>
 
 /// The class of the one that comes first, by the numbers of arrival of the first ones of each class.
 /// Each may be missing.
-pub(crate) fn first_class(
-    notice: Option<u64>,
-    response: Option<u64>,
-    content: Option<u64>,
-) -> Class
+pub(crate) fn first_class(notice: Option<u64>, response: Option<u64>, content: Option<u64>) -> Class
     ensures { result ≡ line.first_class notice response content }
 {
     if is_before(response, content) {

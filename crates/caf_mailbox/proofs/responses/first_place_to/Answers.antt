@@ -1,8 +1,8 @@
-use Rattle.std.proofs.Common.{◌≡◌, ℕ, List, ◌∷◌, Bool, true, subst, arith}
+use Rattle.std.proofs.Common.{◌≡◌, ℕ, List, ◌∷◌, true, subst}
 use Rattle.std.specs.Prelude.{slice_get, IfSome}
 use Rattle.std.specs.BTreeMap.Range.{IsLeBy}
 use Rattle.caf_mailbox.specs.Responses.{pair_order, has_key}
-use Rattle.caf_mailbox.proofs.ResponseLemmas.{IsLeast, past_first, first_key, in_range, not_there}
+use Rattle.caf_mailbox.proofs.ResponseLemmas.{IsLeast, past_first, first_key, in_range}
 use Rattle.caf_mailbox.proofs.responses.first_place_to.Goals as goal
 
 pub returns-then-key-request-clause-none : goal.returns-then-key-request-clause-none

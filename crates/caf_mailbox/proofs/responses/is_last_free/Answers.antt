@@ -1,4 +1,4 @@
-use Rattle.std.proofs.Common.{◌≡◌, sym, refl}
+use Rattle.std.proofs.Common.{sym, refl}
 use Rattle.caf_mailbox.proofs.ResponseLemmas.{last_full}
 use Rattle.caf_mailbox.proofs.responses.is_last_free.Goals as goal
 

@@ -1,4 +1,4 @@
-use Rattle.std.proofs.Common.{◌≡◌, ◌∙◌, ◌+◌, [], ◌∷◌, ◌++◌, map, take, length, not, true, false, sym, ap, subst, arith}
+use Rattle.std.proofs.Common.{◌≡◌, ◌∙◌, ◌+◌, [], ◌∷◌, ◌++◌, map, take, length, not, sym, ap, subst, arith}
 use Rattle.caf_message.specs.Envelope.{plain_envelope, is_system, is_content}
 use Rattle.caf_mailbox.specs.Caches.{is_urgent, is_normal, is_urgent_priority}
 use Rattle.caf_mailbox.specs.Order.{AreBelow}
@@ -101,34 +101,34 @@ loop-envelope-preserved c =
     let before = so.number in
     let number : c.loop-envelope.number ≡ c.args.next + length es = omega arith in
     elim c.match-envelope.branch [
-      in-Urgent+in_ok-add_one-in-Urgent w ↦ record {
+      | in-Urgent+in_ok-add_one-in-Urgent w ↦ record {
         urgent_here =
-          ap (λ (r : CachedResponses). r.here) w.urgent-is ∙ w.in_ok-add_one-in-Urgent.ensures.here ∙ so.urgent_here;
+            ap (λ (r : CachedResponses). r.here) w.urgent-is ∙ w.in_ok-add_one-in-Urgent.ensures.here ∙ so.urgent_here;
         normal_here =
-          ap (λ (r : CachedResponses). r.here) w.normal-is ∙ so.normal_here;
+            ap (λ (r : CachedResponses). r.here) w.normal-is ∙ so.normal_here;
         urgent =
-          subst (λ (r : CachedResponses). IsSurvey is_urgent c.args.next more c.match-envelope.urgent_tally r.room) (sym w.urgent-is)
-          (subst (λ (u : Tally). IsSurvey is_urgent c.args.next more u w.add_one.new.responses.room) (sym w.urgent_tally-is)
-          (survey_in is_urgent c.args.next es more e c.loop-envelope.number c.loop-envelope.urgent_tally w.add_one.new.tally c.loop-envelope.urgent.room w.add_one.new.responses.room is number (ap is_urgent_priority w.in-Urgent.is) w.in_ok-add_one-in-Urgent.ensures.more so.urgent));
+            subst (λ (r : CachedResponses). IsSurvey is_urgent c.args.next more c.match-envelope.urgent_tally r.room) (sym w.urgent-is)
+            (subst (λ (u : Tally). IsSurvey is_urgent c.args.next more u w.add_one.new.responses.room) (sym w.urgent_tally-is)
+            (survey_in is_urgent c.args.next es more e c.loop-envelope.number c.loop-envelope.urgent_tally w.add_one.new.tally c.loop-envelope.urgent.room w.add_one.new.responses.room is number (ap is_urgent_priority w.in-Urgent.is) w.in_ok-add_one-in-Urgent.ensures.more so.urgent));
         normal =
-          subst (λ (r : CachedResponses). IsSurvey is_normal c.args.next more c.match-envelope.normal_tally r.room) (sym w.normal-is)
-          (subst (λ (u : Tally). IsSurvey is_normal c.args.next more u c.loop-envelope.normal.room) (sym w.normal_tally-is)
-          (survey_out is_normal c.args.next es more e c.loop-envelope.normal_tally c.loop-envelope.normal.room is (ap (λ p. not (is_urgent_priority p)) w.in-Urgent.is) so.normal));
+            subst (λ (r : CachedResponses). IsSurvey is_normal c.args.next more c.match-envelope.normal_tally r.room) (sym w.normal-is)
+            (subst (λ (u : Tally). IsSurvey is_normal c.args.next more u c.loop-envelope.normal.room) (sym w.normal_tally-is)
+            (survey_out is_normal c.args.next es more e c.loop-envelope.normal_tally c.loop-envelope.normal.room is (ap (λ p. not (is_urgent_priority p)) w.in-Urgent.is) so.normal));
         number = omega arith;
       }
-    | in-Normal+in_ok-add_one-in-Normal w ↦ record {
+      | in-Normal+in_ok-add_one-in-Normal w ↦ record {
         urgent_here =
-          ap (λ (r : CachedResponses). r.here) w.urgent-is ∙ so.urgent_here;
+            ap (λ (r : CachedResponses). r.here) w.urgent-is ∙ so.urgent_here;
         normal_here =
-          ap (λ (r : CachedResponses). r.here) w.normal-is ∙ w.in_ok-add_one-in-Normal.ensures.here ∙ so.normal_here;
+            ap (λ (r : CachedResponses). r.here) w.normal-is ∙ w.in_ok-add_one-in-Normal.ensures.here ∙ so.normal_here;
         urgent =
-          subst (λ (r : CachedResponses). IsSurvey is_urgent c.args.next more c.match-envelope.urgent_tally r.room) (sym w.urgent-is)
-          (subst (λ (u : Tally). IsSurvey is_urgent c.args.next more u c.loop-envelope.urgent.room) (sym w.urgent_tally-is)
-          (survey_out is_urgent c.args.next es more e c.loop-envelope.urgent_tally c.loop-envelope.urgent.room is (ap is_urgent_priority w.in-Normal.is) so.urgent));
+            subst (λ (r : CachedResponses). IsSurvey is_urgent c.args.next more c.match-envelope.urgent_tally r.room) (sym w.urgent-is)
+            (subst (λ (u : Tally). IsSurvey is_urgent c.args.next more u c.loop-envelope.urgent.room) (sym w.urgent_tally-is)
+            (survey_out is_urgent c.args.next es more e c.loop-envelope.urgent_tally c.loop-envelope.urgent.room is (ap is_urgent_priority w.in-Normal.is) so.urgent));
         normal =
-          subst (λ (r : CachedResponses). IsSurvey is_normal c.args.next more c.match-envelope.normal_tally r.room) (sym w.normal-is)
-          (subst (λ (u : Tally). IsSurvey is_normal c.args.next more u w.add_one-in-Normal.new.responses.room) (sym w.normal_tally-is)
-          (survey_in is_normal c.args.next es more e c.loop-envelope.number c.loop-envelope.normal_tally w.add_one-in-Normal.new.tally c.loop-envelope.normal.room w.add_one-in-Normal.new.responses.room is number (ap (λ p. not (is_urgent_priority p)) w.in-Normal.is) w.in_ok-add_one-in-Normal.ensures.more so.normal));
+            subst (λ (r : CachedResponses). IsSurvey is_normal c.args.next more c.match-envelope.normal_tally r.room) (sym w.normal-is)
+            (subst (λ (u : Tally). IsSurvey is_normal c.args.next more u w.add_one-in-Normal.new.responses.room) (sym w.normal_tally-is)
+            (survey_in is_normal c.args.next es more e c.loop-envelope.number c.loop-envelope.normal_tally w.add_one-in-Normal.new.tally c.loop-envelope.normal.room w.add_one-in-Normal.new.responses.room is number (ap (λ p. not (is_urgent_priority p)) w.in-Normal.is) w.in_ok-add_one-in-Normal.ensures.more so.normal));
         number = omega arith;
       }
     ]

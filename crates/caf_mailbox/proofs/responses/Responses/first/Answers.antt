@@ -1,6 +1,5 @@
 use Rattle.std.proofs.Common.{◌≡◌, ◌∙◌, sym, ap, subst}
 use Rattle.std.specs.List.{AllByRecursion}
-use Rattle.caf_message.specs.Lists.{pick}
 use Rattle.caf_mailbox.specs.Arrived.{Arrived, at_arrived, number_taken, is_to}
 use Rattle.caf_mailbox.specs.Awaited.{is_awaited}
 use Rattle.caf_mailbox.specs.declared.eligible.Awaited.{Awaited}

@@ -2,7 +2,7 @@ use Rattle.std.proofs.Common.{◌∙◌, sym, ap}
 use Rattle.caf_message.specs.Lists.{pick}
 use Rattle.caf_mailbox.specs.Arrived.{number_taken, is_to}
 use Rattle.caf_mailbox.specs.Responses.{CachedResponses}
-use Rattle.caf_mailbox.proofs.ResponseLemmas.{none_to, first_to, is_found}
+use Rattle.caf_mailbox.proofs.ResponseLemmas.{none_to, first_to}
 use Rattle.caf_mailbox.proofs.responses.Responses.first_to.Goals as goal
 
 pub returns-in_err-number : goal.returns-in_err-number

@@ -1,4 +1,4 @@
-use Rattle.std.proofs.Common.{◌≡◌, ◌∙◌, length, sym, ap, subst}
+use Rattle.std.proofs.Common.{◌∙◌, length, sym, ap}
 use Rattle.caf_mailbox.specs.Responses.{CachedResponses, here_in}
 use Rattle.caf_mailbox.proofs.ResponseLemmas.{last-listed, last_is_free, here-last, room-fewer}
 use Rattle.caf_mailbox.proofs.responses.Responses.give_up_last.Goals as goal

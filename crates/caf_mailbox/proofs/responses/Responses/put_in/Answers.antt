@@ -1,4 +1,4 @@
-use Rattle.std.proofs.Common.{◌≡◌, ◌∙◌, ◌∷◌, [], ◌++◌, Some, sym, ap, subst}
+use Rattle.std.proofs.Common.{◌∙◌, ◌∷◌, [], ◌++◌, sym, ap}
 use Rattle.std.specs.Prelude.{slice_get}
 use Rattle.caf_message.specs.Envelope.{plain_envelope}
 use Rattle.caf_mailbox.specs.Responses.{CachedResponses}
@@ -24,7 +24,7 @@ returns-clause-here c =
     let new = c.get_mut.follows.lender c.fill.new.slot in
     let holds = c.get_mut.follows.holds c.fill.new.slot in
     (came self.slots.entries new.entries self.by_request.keys c.self.invariant c.args.number c.args.envelope (ap (λ (v : CachedResponses). slice_get v.room 0) c.self.view_is ∙ c.requires) c.fill.new.slot c.in-Some.slot.now c.fill.ensures
-      holds.0).here
+    holds.0).here
     ∙ ap (λ (v : CachedResponses). v.here ++ (c.args.number, plain_envelope c.args.envelope) ∷ []) c.self.view_is
 
 pub returns-clause-room : goal.returns-clause-room
@@ -34,4 +34,4 @@ returns-clause-room c =
     let holds = c.get_mut.follows.holds c.fill.new.slot in
     sym (ap (λ (v : CachedResponses). v.room) c.self.view_is)
     ∙ (came self.slots.entries new.entries self.by_request.keys c.self.invariant c.args.number c.args.envelope (ap (λ (v : CachedResponses). slice_get v.room 0) c.self.view_is ∙ c.requires) c.fill.new.slot c.in-Some.slot.now c.fill.ensures
-      holds.0).room
+    holds.0).room

@@ -1,4 +1,4 @@
-use Rattle.std.proofs.Common.{◌∙◌, [], Some, None, sym, ap}
+use Rattle.std.proofs.Common.{◌∙◌, sym, ap}
 use Rattle.caf_mailbox.specs.Responses.{CachedResponses, room_in}
 use Rattle.caf_mailbox.proofs.ResponseLemmas.{gone-listed, taken_none, taken_some, no_free_at, no_room_left}
 use Rattle.caf_mailbox.proofs.responses.Responses.take.Goals as goal
