@@ -1,5 +1,5 @@
 -- What waits after some of it was taken, and after posts came to it.
-use Rattle.std.proofs.Common.{◌≡◌, ◌≢◌, ℕ, ◌==◌, ◌&&◌, Bool, true, false, List, [], ◌∷◌, ◌++◌, length, refl, ap, sym, ◌∙◌, subst, arith, append_assoc, if◌then◌else◌}
+use Rattle.std.proofs.Common.{◌≡◌, ℕ, ◌==◌, Bool, true, false, List, [], ◌∷◌, ◌++◌, refl, ap, sym, ◌∙◌, subst, arith, append_assoc}
 use Rattle.std.proofs.lemmas.Bool.Decides.{nat_tests}
 use Rattle.std.proofs.lemmas.List.{append-nil}
 use Rattle.caf_message.specs.declared.envelope.Taken.{Taken}
@@ -7,7 +7,7 @@ use Rattle.caf_actor.specs.PlainPost.{PlainPost}
 use Rattle.caf_actor.specs.Record.{from_place, to_place, when}
 use Rattle.caf_record.proofs.BatchLemmas.{from_append}
 use Rattle.caf_driver.specs.Mail.{Waiting, waiting_in, IsMail, HasPosted, HasGiven}
-use Rattle.caf_driver.specs.Delivery.{IsDelivering, HasDelivered, HasTakenOut}
+use Rattle.caf_driver.specs.Delivery.{HasTakenOut}
 use Rattle.caf_driver.proofs.MailLemmas.{self_of}
 
 turned : (a b : ℕ) (c : Bool) → (a == b) ≡ c → (b == a) ≡ c

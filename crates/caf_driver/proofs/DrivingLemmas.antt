@@ -1,29 +1,23 @@
 -- What a driver keeps through a batch.
-use Rattle.std.proofs.Common.{◌≡◌, ◌≢◌, ℕ, zero, suc, ◌+◌, ◌-◌, ◌<◌, ◌≤◌, ◌==◌, ◌||◌, min, max, nat_lt, Bool, true, false, List, [], ◌∷◌, ◌++◌, length, drop, slice_get, slice_set, Option, Some, refl, ap, sym, ◌∙◌, subst, arith, inl, inr, ◌⊎◌}
+use Rattle.std.proofs.Common.{◌≡◌, ◌≢◌, ℕ, suc, ◌<◌, ◌≤◌, ◌==◌, ◌||◌, Bool, true, false, List, [], ◌∷◌, ◌++◌, length, drop, slice_get, Some, refl, ap, sym, ◌∙◌, subst, arith, inl, inr}
 use Rattle.std.specs.List.{AllByRecursion, list_any}
 use Rattle.std.proofs.lemmas.Bool.Decides.{nat_tests}
-use Rattle.std.proofs.lemmas.List.{append-nil}
 use Rattle.caf_types.specs.Limits.{places, latest_stamp}
-use Rattle.caf_types.specs.ShapeTree.{ShapeTree}
 use Rattle.caf_message.specs.declared.envelope.Taken.{Taken}
 use Rattle.caf_message.specs.Entries.{TableEntries, entry_shape}
-use Rattle.caf_message.specs.Envelope.{outside}
 use Rattle.caf_actor.specs.Actor.{ActorState}
-use Rattle.caf_actor.specs.Drain.{batch_of, stamp_due}
-use Rattle.caf_actor.specs.Record.{IsPrefix, from_place, to_place, when}
+use Rattle.caf_actor.specs.Record.{IsPrefix, from_place}
 use Rattle.caf_actor.specs.Rules.{Rules}
 use Rattle.caf_actor.specs.Run.{without}
-use Rattle.caf_actor.proofs.StampLemmas.{taken_before, stamp_after, stamp_rises}
 use Rattle.caf_record.proofs.BatchLemmas.{drop_prefix}
 use Rattle.caf_record.proofs.ListLemmas.{same_of}
 use Rattle.caf_driver.specs.Places.{has_place}
-use Rattle.caf_driver.specs.Mail.{Waiting, waiting_in, IsMail}
+use Rattle.caf_driver.specs.Mail.{Waiting, waiting_in}
 use Rattle.caf_driver.specs.Delivery.{HasTakenOut}
-use Rattle.caf_driver.specs.Population.{PopulationSeen, IsSound, greatest_of, IsPopulation, HasPlayed, HasTaken}
+use Rattle.caf_driver.specs.Population.{PopulationSeen, IsSound, greatest_of, IsPopulation}
 use Rattle.caf_driver.specs.Driver.{DriverState, IsSpent}
-use Rattle.caf_driver.specs.Driving.{IsDriving, IsSettled, room_of}
-use Rattle.caf_driver.proofs.ListLemmas.{get_less, get_some, not_of}
-use Rattle.caf_driver.proofs.PopulationLemmas.{greatest_most}
+use Rattle.caf_driver.specs.Driving.{IsSettled}
+use Rattle.caf_driver.proofs.ListLemmas.{get_some, not_of}
 use Rattle.caf_driver.proofs.SpentLemmas.{offered_waits, offered_known}
 
 -- ---- lists

@@ -1,11 +1,11 @@
 -- What waits for all places when what waits for one of them changes.
-use Rattle.std.proofs.Common.{◌≡◌, ◌≢◌, ℕ, zero, suc, ◌<◌, ◌==◌, ◌&&◌, ◌||◌, not, Bool, true, false, List, [], ◌∷◌, ◌++◌, length, slice_index_or, slice_set, refl, ap, sym, ◌∙◌, subst, arith, if◌then◌else◌}
+use Rattle.std.proofs.Common.{◌≡◌, ◌≢◌, ℕ, zero, suc, ◌<◌, ◌==◌, ◌&&◌, ◌||◌, not, Bool, true, false, List, [], ◌∷◌, ◌++◌, length, slice_index_or, refl, ap, sym, ◌∙◌, subst, arith, if◌then◌else◌}
 use Rattle.std.proofs.lemmas.Bool.Decides.{nat_tests}
-use Rattle.std.proofs.lemmas.List.{get_or-set_same, get_or-set_other, length-set}
+use Rattle.std.proofs.lemmas.List.{get_or-set_other, length-set}
 use Rattle.caf_message.specs.declared.envelope.Taken.{Taken}
 use Rattle.caf_driver.specs.Places.{is_filled, IsRising, has_place, place_in, place_out}
 use Rattle.caf_driver.specs.Arrivals.{Arriving, nothing_arriving, from_sender, IsArriving, HasPushed, HasPopped}
-use Rattle.caf_driver.specs.Mail.{Waiting, arriving_at, waiting_in, IsMail, HasArrivals, HasPosted, HasGiven}
+use Rattle.caf_driver.specs.Mail.{Waiting, arriving_at, waiting_in, IsMail, HasArrivals}
 use Rattle.caf_driver.proofs.PlaceLemmas.{has_in, rising_in, has_out, rising_out}
 use Rattle.caf_driver.proofs.ArrivalLemmas.{filled_more}
 

@@ -1,20 +1,18 @@
 -- A driver at first, and when a notice is played.
-use Rattle.std.proofs.Common.{◌≡◌, ◌≢◌, ℕ, zero, suc, ◌+◌, ◌-◌, ◌<◌, ◌≤◌, ◌==◌, ◌&&◌, min, max, nat_lt, IsTrue, Bool, true, false, List, [], ◌∷◌, ◌++◌, length, take, slice_get, slice_index_or, Option, Some, refl, ap, sym, ◌∙◌, subst, arith, inl, inr, ◌⊎◌}
+use Rattle.std.proofs.Common.{◌≡◌, ℕ, suc, ◌+◌, ◌<◌, ◌≤◌, max, true, List, [], ◌∷◌, ◌++◌, length, take, slice_get, slice_index_or, Some, refl, ap, sym, ◌∙◌, subst, arith, inl, inr, ◌⊎◌}
 use Rattle.std.specs.List.{AllByRecursion}
 use Rattle.std.proofs.lemmas.List.{take_more}
 use Rattle.std.proofs.lemmas.Bool.{cases_lt}
-use Rattle.std.proofs.lemmas.Bool.Decides.{nat_tests}
 use Rattle.caf_types.specs.Limits.{places}
 use Rattle.caf_message.specs.Entries.{TableEntries, entry_shape}
-use Rattle.caf_message.specs.declared.envelope.Taken.{Taken}
 use Rattle.caf_actor.specs.declared.snapshot.Snapshot.{Snapshot}
 use Rattle.caf_actor.specs.Actor.{ActorState, IsActor, IsAtWork, untried, CachesFit, DelaysFit}
-use Rattle.caf_actor.specs.Leads.{LeadsWithin, StaysWithin}
+use Rattle.caf_actor.specs.Leads.{LeadsWithin}
 use Rattle.caf_actor.specs.Record.{machine_of}
 use Rattle.caf_actor.specs.Rules.{Rules}
 use Rattle.caf_actor.specs.Snapshot.{fresh}
 use Rattle.caf_driver.specs.Mail.{Waiting, waiting_in, IsMail}
-use Rattle.caf_driver.specs.Population.{PopulationSeen, IsPlace, IsReady, IsSound, greatest_of, handled_by, IsPopulation}
+use Rattle.caf_driver.specs.Population.{IsPlace, IsReady, IsSound, greatest_of, handled_by, IsPopulation}
 use Rattle.caf_driver.specs.Opening.{IsFresh, AreFresh}
 use Rattle.caf_driver.proofs.IdleLemmas.{fresh_idle, fresh_caches, fresh_delays}
 use Rattle.caf_driver.proofs.ListLemmas.{get_less}

@@ -1,8 +1,8 @@
 -- What is put into a list of places and taken out of it.
-use Rattle.std.proofs.Common.{◌≡◌, ◌≢◌, ℕ, suc, ◌+◌, ◌<◌, ◌≤◌, ◌==◌, ◌&&◌, ◌||◌, not, nat_lt, Bool, true, false, List, [], ◌∷◌, ◌++◌, filter, length, slice_index_or, refl, ap, sym, ◌∙◌, subst, arith, if◌then◌else◌, insert, remove}
-use Rattle.std.specs.List.{AllByRecursion, list_any, prefix_len}
+use Rattle.std.proofs.Common.{◌≡◌, ◌≢◌, ℕ, suc, ◌+◌, ◌<◌, ◌≤◌, ◌==◌, ◌&&◌, ◌||◌, not, nat_lt, Bool, true, false, List, [], ◌∷◌, ◌++◌, length, slice_index_or, refl, ap, sym, ◌∙◌, subst, arith, insert, remove}
+use Rattle.std.specs.List.{AllByRecursion, prefix_len}
 use Rattle.std.proofs.lemmas.Bool.Decides.{nat_tests}
-use Rattle.caf_driver.specs.Places.{is_filled, IsRising, has_place, place_in, place_out, first_of, chosen, next_past}
+use Rattle.caf_driver.specs.Places.{IsRising, has_place, place_in, place_out, first_of, chosen, next_past}
 
 pub insert_is : (place : ℕ) (xs : List ℕ) → insert xs (prefix_len (λ x. nat_lt x place) xs) place ≡ place_in place xs
 insert_is place [] = refl

@@ -1,5 +1,5 @@
 -- Which place has the last stamp, or something to take that has it.
-use Rattle.std.proofs.Common.{◌≡◌, ◌≢◌, ℕ, zero, suc, ◌+◌, ◌<◌, ◌≤◌, ◌==◌, ◌||◌, Bool, true, false, List, [], ◌∷◌, ◌++◌, length, slice_get, slice_index_or, take, Option, Some, refl, ap, sym, ◌∙◌, subst, arith, inl, inr, ◌⊎◌}
+use Rattle.std.proofs.Common.{◌≡◌, ◌≢◌, ℕ, zero, suc, ◌+◌, ◌<◌, ◌≤◌, ◌==◌, ◌||◌, Bool, true, false, List, [], ◌∷◌, ◌++◌, length, slice_get, slice_index_or, take, Some, refl, ap, sym, ◌∙◌, subst, arith, inl, inr, ◌⊎◌}
 use Rattle.std.specs.List.{AllByRecursion, list_any}
 use Rattle.std.proofs.lemmas.Bool.Decides.{nat_tests}
 use Rattle.std.proofs.lemmas.List.{take_more}
@@ -10,10 +10,10 @@ use Rattle.caf_message.specs.Entries.{TableEntries, entry_shape}
 use Rattle.caf_actor.specs.Actor.{ActorState}
 use Rattle.caf_actor.specs.Rules.{Rules}
 use Rattle.caf_driver.specs.Places.{is_filled, IsRising, has_place}
-use Rattle.caf_driver.specs.Arrivals.{from_sender, has_last}
+use Rattle.caf_driver.specs.Arrivals.{has_last}
 use Rattle.caf_driver.specs.Mail.{Waiting, arriving_at, waiting_in, IsMail}
-use Rattle.caf_driver.specs.Population.{PopulationSeen, IsSound, greatest_of, IsPopulation}
-use Rattle.caf_driver.specs.Driver.{IsSpent, IsFirstSpent}
+use Rattle.caf_driver.specs.Population.{PopulationSeen, IsSound, IsPopulation}
+use Rattle.caf_driver.specs.Driver.{IsSpent}
 use Rattle.caf_driver.proofs.ArrivalLemmas.{any_at, at_any}
 use Rattle.caf_driver.proofs.MailLemmas.{known_place, senders_filled}
 use Rattle.caf_driver.proofs.PopulationLemmas.{greatest_most}

@@ -1,5 +1,5 @@
 -- All actors and what waits for them, after one of them took a batch.
-use Rattle.std.proofs.Common.{◌≡◌, ℕ, zero, suc, ◌+◌, ◌<◌, ◌≤◌, ◌==◌, min, max, nat_lt, IsTrue, Bool, true, false, List, [], ◌∷◌, ◌++◌, length, slice_get, slice_set, slice_index_or, Option, Some, refl, ap, sym, ◌∙◌, subst, arith, inl, inr, ◌⊎◌, ◌≢◌}
+use Rattle.std.proofs.Common.{◌≡◌, ℕ, zero, suc, ◌+◌, ◌<◌, ◌≤◌, ◌==◌, min, max, nat_lt, IsTrue, Bool, true, false, List, [], ◌∷◌, ◌++◌, length, slice_get, slice_set, slice_index_or, Option, Some, ap, sym, ◌∙◌, subst, arith, inl, inr, ◌⊎◌, ◌≢◌}
 use Rattle.std.specs.List.{AllByRecursion}
 use Rattle.std.proofs.lemmas.List.{length-set}
 use Rattle.caf_types.specs.ShapeTree.{ShapeTree}
@@ -8,18 +8,18 @@ use Rattle.caf_message.specs.Entries.{TableEntries, entry_shape}
 use Rattle.caf_message.specs.Envelope.{EnvelopeFits}
 use Rattle.caf_mailbox.proofs.NextLemmas.{all_append}
 use Rattle.caf_actor.specs.Actor.{ActorState}
-use Rattle.caf_actor.specs.Drain.{batch_of, stamp_due}
+use Rattle.caf_actor.specs.Drain.{stamp_due}
 use Rattle.caf_actor.specs.Leads.{LeadsWithin, GoesWithin, PostFits}
 use Rattle.caf_actor.specs.PlainPost.{PlainPost}
 use Rattle.caf_actor.specs.Record.{to_place, when}
 use Rattle.caf_actor.specs.Rules.{Rules}
 use Rattle.caf_actor.proofs.StampLemmas.{IsPostOf, posts_of_place, stamp_after, stamp_rises}
 use Rattle.caf_record.proofs.BatchLemmas.{all_to}
-use Rattle.caf_driver.specs.Mail.{Waiting, waiting_in}
+use Rattle.caf_driver.specs.Mail.{waiting_in}
 use Rattle.caf_driver.specs.Delivery.{HasDelivered}
-use Rattle.caf_driver.specs.Population.{PopulationSeen, IsPlace, IsReady, IsSound, greatest_of, handled_by, IsPopulation, HasPlayed, HasMade, HasTaken}
-use Rattle.caf_driver.proofs.ListLemmas.{set_get, get_less}
-use Rattle.caf_driver.proofs.PopulationLemmas.{greatest_set, greatest_most, handled_set}
+use Rattle.caf_driver.specs.Population.{PopulationSeen, IsPlace, IsReady, IsSound, greatest_of, handled_by, IsPopulation, HasMade, HasTaken}
+use Rattle.caf_driver.proofs.ListLemmas.{set_get}
+use Rattle.caf_driver.proofs.PopulationLemmas.{greatest_set, handled_set}
 
 -- ---- lists
 
@@ -119,7 +119,7 @@ module _ {S : Type 0} (valid : S → Type 0) (rules : Rules S) (entries : TableE
           boxes = delivered.places ∙ h.boxes ∙ same;
           sound = subst (λ n. (a b : ℕ) → AllByRecursion (IsSound (entry_shape entries) n new.latest) (waiting_in new.mail a b)) same sound_new;
           latest = latest ∙ (let first = h.latest in let is = made.same_stamp in let set = greatest_set old.actors place before after at rises in
-          ap (λ x. max x stamp) first ∙ ap (λ x. max (greatest_of old.actors) x) is ∙ sym set) ∙ ap greatest_of (sym actors);
+              ap (λ x. max x stamp) first ∙ ap (λ x. max (greatest_of old.actors) x) is ∙ sym set) ∙ ap greatest_of (sym actors);
           handled = let first = h.handled in let sum = handled_set old.actors place before after at in let more = made.more in let is = ap handled_by actors in omega arith;
         }
 

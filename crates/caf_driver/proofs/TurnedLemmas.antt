@@ -1,10 +1,10 @@
 -- A driver after a turn, and at an end.
-use Rattle.std.proofs.Common.{◌≡◌, ◌≢◌, ℕ, zero, suc, ◌+◌, ◌-◌, ◌<◌, ◌≤◌, ◌==◌, min, max, Bool, true, false, List, [], ◌∷◌, ◌++◌, length, map, slice_get, slice_set, Option, Some, refl, ap, sym, ◌∙◌, subst, arith, inl, inr, ◌⊎◌}
+use Rattle.std.proofs.Common.{◌≡◌, ◌≢◌, ℕ, zero, suc, ◌+◌, ◌<◌, ◌≤◌, ◌==◌, max, Bool, true, false, List, [], ◌∷◌, ◌++◌, length, slice_get, slice_set, Some, refl, ap, sym, ◌∙◌, subst, arith, inl, inr, ◌⊎◌}
 use Rattle.std.specs.List.{AllByRecursion}
 use Rattle.std.proofs.lemmas.Bool.{cases_lt}
 use Rattle.std.proofs.lemmas.Bool.Decides.{nat_tests}
 use Rattle.std.proofs.lemmas.List.{append-nil}
-use Rattle.caf_types.specs.Limits.{places, latest_stamp}
+use Rattle.caf_types.specs.Limits.{latest_stamp}
 use Rattle.caf_message.specs.declared.envelope.Taken.{Taken}
 use Rattle.caf_message.specs.Entries.{TableEntries}
 use Rattle.caf_message.specs.Envelope.{outside}
@@ -20,12 +20,12 @@ use Rattle.caf_record.proofs.ListLemmas.{same_of}
 use Rattle.caf_driver.specs.declared.drive.DriveEnd.{DriveEnd}
 use Rattle.caf_driver.specs.declared.drive.DriveEnd.TheVariants as ends
 use Rattle.caf_driver.specs.Mail.{waiting_in}
-use Rattle.caf_driver.specs.Population.{PopulationSeen, greatest_of, handled_by, IsPopulation}
+use Rattle.caf_driver.specs.Population.{PopulationSeen, greatest_of, IsPopulation}
 use Rattle.caf_driver.specs.Driver.{DriverState, journals_of, record_in, IsDriven}
 use Rattle.caf_driver.specs.Ends.{EndsSo}
 use Rattle.caf_driver.specs.Driving.{IsDriving, IsSettled, room_of, EndsNow, HasTurned}
 use Rattle.caf_driver.proofs.ListLemmas.{get_less, fields}
-use Rattle.caf_driver.proofs.PopulationLemmas.{greatest_set, greatest_most}
+use Rattle.caf_driver.proofs.PopulationLemmas.{greatest_set}
 use Rattle.caf_driver.proofs.DrivingLemmas.{next_of, without_of, left_all}
 use Rattle.caf_driver.proofs.TurnLemmas.{turn_driven}
 use Rattle.caf_driver.proofs.LegalLemmas.{rest_driven}

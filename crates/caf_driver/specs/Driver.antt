@@ -1,14 +1,14 @@
 -- A run on one thread between two batches, and what holds of its record.
-use Rattle.std.specs.Prelude.{◌≡◌, ◌≢◌, ℕ, ◌+◌, ◌-◌, ◌<◌, ◌≤◌, ◌==◌, ◌&&◌, ◌⊎◌, min, max, nat_lt, Bool, true, false, if◌then◌else◌, List, [], ◌∷◌, ◌++◌, length, map, slice_get, slice_index_or, Option, Some}
-use Rattle.std.specs.List.{AllByRecursion, list_any}
-use Rattle.caf_types.specs.Limits.{places, latest_stamp}
+use Rattle.std.specs.Prelude.{◌≡◌, ◌≢◌, ℕ, ◌+◌, ◌-◌, ◌<◌, ◌==◌, ◌&&◌, ◌⊎◌, min, max, nat_lt, Bool, true, if◌then◌else◌, List, [], ◌∷◌, ◌++◌, length, map, slice_get, slice_index_or, Some}
+use Rattle.std.specs.List.{list_any}
+use Rattle.caf_types.specs.Limits.{latest_stamp}
 use Rattle.caf_message.specs.declared.envelope.Taken.{Taken}
 use Rattle.caf_message.specs.Envelope.{outside, start_envelope}
 use Rattle.caf_message.specs.Outside.{outside_envelope}
 use Rattle.caf_actor.specs.declared.journal.TakenBatch.{TakenBatch}
 use Rattle.caf_actor.specs.declared.snapshot.Snapshot.{Snapshot}
 use Rattle.caf_actor.specs.Actor.{ActorState}
-use Rattle.caf_actor.specs.Record.{Machine, Kept, machine_of, ends, heard, joined, latest, when, untaken, IsAtRest, IsLegal, cut_in, handled}
+use Rattle.caf_actor.specs.Record.{Machine, Kept, machine_of, ends, heard, joined, latest, when, untaken, IsLegal, cut_in}
 use Rattle.caf_actor.specs.Rules.{Rules}
 use Rattle.caf_actor.specs.Run.{State, Step, opening_state, IsRun, run, batches_of}
 use Rattle.caf_record.specs.RunRecord.{journal_at, kept_from}

@@ -1,12 +1,11 @@
 -- All actors of a run with what waits for them, as a driver keeps them between two batches.
-use Rattle.std.specs.Prelude.{◌≡◌, ◌≢◌, ℕ, ◌+◌, ◌<◌, ◌≤◌, ◌==◌, min, max, nat_lt, IsTrue, Bool, true, false, List, [], ◌∷◌, ◌++◌, length, map, slice_get, slice_set, sum_by, Option, Some}
+use Rattle.std.specs.Prelude.{◌≡◌, ℕ, ◌+◌, ◌<◌, ◌≤◌, ◌==◌, min, max, nat_lt, IsTrue, true, false, List, [], ◌∷◌, ◌++◌, length, slice_get, slice_set, Option, Some}
 use Rattle.std.specs.List.{AllByRecursion}
 use Rattle.caf_types.specs.Limits.{places}
 use Rattle.caf_types.specs.ShapeTree.{ShapeTree}
 use Rattle.caf_message.specs.declared.envelope.Taken.{Taken}
 use Rattle.caf_message.specs.Entries.{TableEntries, entry_shape}
 use Rattle.caf_message.specs.Envelope.{EnvelopeFits}
-use Rattle.caf_actor.specs.declared.journal.TakenBatch.{TakenBatch}
 use Rattle.caf_actor.specs.Actor.{ActorState, IsAtWork, CachesFit, DelaysFit, add_handled}
 use Rattle.caf_actor.specs.Drain.{batch_of, stamp_due, left_in_batch}
 use Rattle.caf_actor.specs.Leads.{StaysWithin, LeadsWithin, GoesWithin, PostFits}

@@ -44,12 +44,7 @@ pub(crate) fn collect<C: Chooser>(
 }
 
 /// The sender whose next envelope the place takes; None where the batch ends.
-fn next_sender<C: Chooser>(
-    mail: &Mail,
-    place: u32,
-    is_first: bool,
-    chooser: &mut C,
-) -> Option<u32>
+fn next_sender<C: Chooser>(mail: &Mail, place: u32, is_first: bool, chooser: &mut C) -> Option<u32>
     requires mail { IsMail mail.now }
     requires place { place < length mail.now.arrivals }
     ensures first { is_first ≡ true → has_place mail.now.offered place ≡ true → IsSome result }

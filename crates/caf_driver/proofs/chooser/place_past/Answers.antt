@@ -1,4 +1,4 @@
-use Rattle.std.proofs.Common.{◌≡◌, ◌++◌, ◌<◌, ◌≤◌, length, slice_index_or, ap, sym, subst, ◌∙◌, rules}
+use Rattle.std.proofs.Common.{◌≡◌, ◌++◌, ◌<◌, ◌≤◌, length, slice_index_or, ap, sym, ◌∙◌, rules}
 use Rattle.caf_driver.specs.Places.{first_of}
 use Rattle.caf_driver.proofs.PlaceLemmas.{next_at, next_none, first_at, count_to}
 use Rattle.caf_driver.proofs.chooser.place_past.Goals as goal

@@ -1,4 +1,4 @@
-use Rattle.std.proofs.Common.{◌≡◌, ap, ◌∙◌, sym, insert, nat_lt}
+use Rattle.std.proofs.Common.{◌≡◌, ap, ◌∙◌, insert, nat_lt}
 use Rattle.std.specs.List.{prefix_len}
 use Rattle.caf_driver.proofs.PlaceLemmas.{insert_is}
 use Rattle.caf_driver.proofs.places.with_place.Goals as goal

@@ -1,4 +1,4 @@
-use Rattle.std.proofs.Common.{◌≡◌, ◌≤◌, ◌+◌, ◌-◌, min, map, nat_lt, ap, sym, ◌∙◌, arith}
+use Rattle.std.proofs.Common.{map, nat_lt, ap, ◌∙◌, arith}
 use Rattle.caf_types.specs.Table.{shape_at}
 use Rattle.caf_types.specs.TypeTable.{seen}
 use Rattle.caf_message.specs.Entries.{entry_shape}

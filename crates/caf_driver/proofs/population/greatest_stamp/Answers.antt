@@ -1,7 +1,6 @@
-use Rattle.std.proofs.Common.{◌≡◌, ◌<◌, ◌≤◌, ◌⊎◌, ◌∙◌, ℕ, length, take, slice_get, slice_index_or, Some, sym, subst, ap, arith, inl, inr, rules}
-use Rattle.std.proofs.lemmas.Bool.{cases_lt}
+use Rattle.std.proofs.Common.{◌≤◌, ◌∙◌, length, ap, arith, rules}
 use Rattle.std.proofs.lemmas.List.{take_all}
-use Rattle.caf_actor.specs.Actor.{ActorState, IsActor}
+use Rattle.caf_actor.specs.Actor.{IsActor}
 use Rattle.caf_driver.specs.Population.{greatest_of}
 use Rattle.caf_driver.proofs.ListLemmas.{get_less}
 use Rattle.caf_driver.proofs.OpeningLemmas.{greatest_next, with_next}

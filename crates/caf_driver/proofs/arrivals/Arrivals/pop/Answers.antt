@@ -1,6 +1,5 @@
-use Rattle.std.proofs.Common.{◌≡◌, ◌+◌, ℕ, List, ◌∷◌, length, ap, sym, subst, ◌∙◌}
+use Rattle.std.proofs.Common.{◌≡◌, ◌+◌, ap, sym, subst, ◌∙◌}
 use Rattle.std.specs.List.{AllByRecursion}
-use Rattle.caf_message.specs.Envelope.{plain_envelope}
 use Rattle.caf_message.specs.declared.envelope.Taken.{Taken}
 use Rattle.caf_driver.specs.Places.{is_filled, place_out}
 use Rattle.caf_driver.specs.Arrivals.{from_sender, length_of, IsArriving}

@@ -1,4 +1,4 @@
-use Rattle.std.proofs.Common.{◌≡◌, ℕ, List, [], ◌∷◌, ◌++◌, ap, sym, subst, ◌∙◌, refl}
+use Rattle.std.proofs.Common.{◌≡◌, [], ◌∷◌, ◌++◌, ap, sym, subst, ◌∙◌, refl}
 use Rattle.caf_message.specs.Envelope.{plain_envelope}
 use Rattle.caf_message.specs.declared.envelope.Taken.{Taken}
 use Rattle.caf_driver.specs.Places.{is_filled, place_in}

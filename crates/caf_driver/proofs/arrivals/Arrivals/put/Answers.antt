@@ -1,7 +1,6 @@
-use Rattle.std.proofs.Common.{rules, ◌≡◌, ◌<◌, ℕ, List, [], ◌∷◌, ◌++◌, length, map, slice_index_or, ap, sym, subst, ◌∙◌}
+use Rattle.std.proofs.Common.{◌<◌, [], ◌∷◌, ◌++◌, length, map, ap, sym, subst, ◌∙◌}
 use Rattle.std.proofs.lemmas.List.{map-append}
 use Rattle.caf_message.specs.Envelope.{plain_envelope}
-use Rattle.caf_driver.specs.Arrivals.{from_sender}
 use Rattle.caf_driver.proofs.ArrivalLemmas.{set_queue, queue_before}
 use Rattle.caf_driver.proofs.arrivals.Arrivals.put.Goals as goal
 

@@ -1,6 +1,5 @@
-use Rattle.std.proofs.Common.{rules, ◌≡◌, ◌<◌, ℕ, List, [], ◌∷◌, ◌++◌, length, map, slice_index_or, ap, sym, subst, ◌∙◌, refl}
+use Rattle.std.proofs.Common.{rules, ◌<◌, ◌∷◌, length, map, ap, sym, subst, ◌∙◌}
 use Rattle.caf_message.specs.Envelope.{plain_envelope}
-use Rattle.caf_driver.specs.Arrivals.{from_sender}
 use Rattle.caf_driver.proofs.ArrivalLemmas.{set_queue, queue_before, queue_after, known_of, empty_filled}
 use Rattle.caf_driver.proofs.arrivals.Arrivals.take_first.Goals as goal
 

@@ -1,4 +1,4 @@
-use Rattle.std.proofs.Common.{◌≡◌, ◌<◌, ◌≤◌, sym, subst, rules}
+use Rattle.std.proofs.Common.{◌<◌, ◌≤◌, sym, subst, rules}
 use Rattle.caf_driver.specs.Driving.{state_of}
 use Rattle.caf_driver.proofs.LegalLemmas.{legal_driven}
 use Rattle.caf_driver.proofs.TurnedLemmas.{few_of, ends_driven}

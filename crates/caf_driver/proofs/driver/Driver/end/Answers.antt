@@ -1,4 +1,4 @@
-use Rattle.std.proofs.Common.{◌≡◌, ◌≤◌, ◌∙◌, min, subst, sym, ap, rules}
+use Rattle.std.proofs.Common.{◌≤◌, ◌∙◌, min, subst, sym, ap}
 use Rattle.caf_driver.specs.Mail.{waiting_in}
 use Rattle.caf_driver.specs.Population.{handled_by}
 use Rattle.caf_driver.specs.Driver.{IsSpent}
@@ -82,4 +82,3 @@ returns-in-None-clause-settled g c =
     let driving = c.self.invariant whole in
     let h = driving.population in
     settled_of valid rules entries (state_of c.args.self.now) c.self.inside.population h (ap (λ (d : DriverSeen _). d.actors) (sym view))
-

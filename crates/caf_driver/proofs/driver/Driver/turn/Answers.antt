@@ -1,4 +1,4 @@
-use Rattle.std.proofs.Common.{◌≡◌, ◌<◌, ◌∙◌, ℕ, subst, sym, ap, refl}
+use Rattle.std.proofs.Common.{◌<◌, ◌∙◌, subst, sym, ap, refl}
 use Rattle.caf_driver.specs.Mail.{waiting_in}
 use Rattle.caf_driver.specs.Driver.{IsSpent}
 use Rattle.caf_driver.specs.Driving.{DriverSeen, state_of, room_of}

@@ -1,4 +1,4 @@
-use Rattle.std.proofs.Common.{◌≡◌, ap, sym, subst, ◌∙◌}
+use Rattle.std.proofs.Common.{ap, sym, subst, ◌∙◌}
 use Rattle.caf_message.specs.Envelope.{plain_envelope}
 use Rattle.caf_driver.specs.Places.{is_filled, place_in}
 use Rattle.caf_driver.specs.Mail.{arriving_at, HasPosted}

@@ -1,4 +1,4 @@
-use Rattle.std.proofs.Common.{◌≡◌, ◌≤◌, ◌<◌, ◌∙◌, length, slice_index_or, subst, sym, ap, rules}
+use Rattle.std.proofs.Common.{◌≤◌, ◌<◌, ◌∙◌, length, slice_index_or, subst, sym, ap, rules}
 use Rattle.std.proofs.lemmas.List.{take_all, get_or_default}
 use Rattle.caf_types.specs.Limits.{latest_stamp}
 use Rattle.caf_driver.specs.Places.{IsRising, has_place}

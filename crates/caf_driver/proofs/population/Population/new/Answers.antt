@@ -1,7 +1,6 @@
-use Rattle.std.proofs.Common.{◌≡◌, ◌∙◌, ℕ, [], length, slice_get, Some, sym, subst, ap}
+use Rattle.std.proofs.Common.{◌≡◌, ◌∙◌, ℕ, length, slice_get, Some, sym, subst, ap}
 use Rattle.caf_actor.specs.Actor.{ActorState, IsActor}
-use Rattle.caf_driver.specs.Mail.{waiting_in}
-use Rattle.caf_driver.specs.Population.{PopulationSeen, greatest_of, IsPopulation}
+use Rattle.caf_driver.specs.Population.{greatest_of, IsPopulation}
 use Rattle.caf_driver.proofs.OpeningLemmas.{opening_population, nothing_taken}
 use Rattle.caf_driver.proofs.population.Population.new.Goals as goal
 

@@ -1,13 +1,11 @@
-use Rattle.std.proofs.Common.{◌≡◌, ◌<◌, ℕ, List, map, length, slice_get, slice_index_or, slice_set, Some, ap, sym, subst, ◌∙◌, refl}
+use Rattle.std.proofs.Common.{◌≡◌, ◌<◌, map, length, slice_get, slice_set, ap, sym, subst, ◌∙◌, refl}
 use Rattle.std.specs.List.{AllByRecursion}
-use Rattle.caf_message.specs.declared.envelope.Taken.{Taken}
 use Rattle.caf_message.specs.Entries.{entry_shape}
 use Rattle.caf_message.specs.Envelope.{plain_envelope}
-use Rattle.caf_actor.specs.Leads.{LeadsWithin}
 use Rattle.caf_actor.specs.PlainForms.{plain_post}
 use Rattle.caf_actor.specs.PlainPost.{PlainPost}
-use Rattle.caf_driver.specs.Population.{PopulationSeen, IsSound, IsPlace, IsPopulation, HasTaken}
-use Rattle.caf_driver.proofs.TakenLemmas.{found, all_leads, goes_now, goes_to, own_senders, population_taken, has_taken, stamp_is}
+use Rattle.caf_driver.specs.Population.{PopulationSeen, IsSound, IsPopulation, HasTaken}
+use Rattle.caf_driver.proofs.TakenLemmas.{found, all_leads, goes_to, own_senders, population_taken, has_taken, stamp_is}
 use Rattle.caf_driver.proofs.population.Population.take.Goals as goal
 
 pub give-requires-clause-caches : goal.give-requires-clause-caches

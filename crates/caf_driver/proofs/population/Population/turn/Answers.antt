@@ -1,4 +1,4 @@
-use Rattle.std.proofs.Common.{◌≡◌, ◌<◌, ◌∙◌, ℕ, length, map, subst, sym, ap}
+use Rattle.std.proofs.Common.{◌≡◌, ◌<◌, ℕ, length, map, subst, sym}
 use Rattle.caf_types.specs.Limits.{latest_stamp}
 use Rattle.caf_message.specs.declared.envelope.Taken.{Taken}
 use Rattle.caf_message.specs.Entries.{entry_shape}
