@@ -1,0 +1,9 @@
+pub mod Places
+pub mod Arrivals
+pub mod Mail
+pub mod Delivery
+pub mod Population
+pub mod Driver
+pub mod Opening
+pub mod Ends
+pub mod Driving
