@@ -3,7 +3,7 @@
 //! Model: a [`Role`] says what one place does, a [`Move`] what comes next, a [`Choice`] who takes what.
 //! [`play`] makes the moves and tells in plain values what came of it ([`Played`]).
 //!
-//! The contract that tests rest on: [`opening`] makes actors of which a driver may be made, or names the
+//! The contract that tests rest on: [`opening_actors`] makes actors of which a driver may be made, or names the
 //! role that fits no place; so every play keeps the conditions of the driver, and what a test compares is
 //! what the driver and its actors did.
 #![tactic(auto)]
@@ -22,7 +22,7 @@ mod run;
 pub use choosers::{Always, LastPlace, SendersInTurn};
 pub use fault::PlayFault;
 pub use moves::{Choice, Move, Outcome};
-pub use opening::opening;
+pub use opening::opening_actors;
 pub use played::{Final, JournalLine, Played};
 pub use role::Role;
 pub use run::play;

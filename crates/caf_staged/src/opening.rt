@@ -1,4 +1,10 @@
 //! The actors of a play at its beginning.
+ghost use Rattle.std.specs.Prelude.{◌≡◌, ◌<◌, ◌≤◌, length, IfOk};
+ghost use Rattle.caf_types.specs.Limits.{places};
+ghost use Rattle.caf_driver.specs.Opening.{IsFresh, AreFresh};
+ghost use Rattle.caf_scripted.specs.Scripted.{scripted_rules};
+ghost use Rattle.caf_staged.specs.Opening.{are_below, belongs};
+
 use crate::{PlayFault, Role};
 use caf_actor::Actor;
 use caf_scripted::{Part, Scripted};
@@ -6,8 +12,13 @@ use caf_signature::{Interface, Signature};
 use caf_types::{LATEST_STAMP, Memory, PLACES, Places, Seq, TypeId, TypeIds};
 use std::alloc::Global;
 
-/// An actor for each role, each at its place, that took nothing yet.
-pub fn opening(alloc: Global, roles: &[Role]) -> Result<Seq<Actor<Scripted>>, PlayFault> {
+/// An actor for each role, each at its place, that took nothing yet and sends to these places alone.
+pub fn opening_actors(alloc: Global, roles: &[Role]) -> Result<Seq<Actor<Scripted>>, PlayFault>
+    ensures each { IfOk result (λ actors. length actors ≡ length roles.now) }
+    ensures some { IfOk result (λ actors. 0 < length actors) }
+    ensures few { IfOk result (λ actors. length actors ≤ places) }
+    ensures fresh { IfOk result (λ actors. AreFresh scripted_rules actors) }
+{
     let count = roles.len();
     if count == 0 || count > PLACES as usize {
         return Err(PlayFault::Roles);
@@ -26,28 +37,34 @@ fn actor_of(
     place: u32,
     count: u32,
     role: &Role,
-) -> Result<Actor<Scripted>, PlayFault> {
+) -> Result<Actor<Scripted>, PlayFault>
+    requires place { place < count }
+    requires count { count ≤ places }
+    ensures { IfOk result (λ actor. IsFresh scripted_rules count place actor) }
+{
     let behavior = behavior_of(alloc, &role.part)?;
     if !belongs(&behavior, place, count) || role.stamp > LATEST_STAMP {
         return Err(PlayFault::Role(place));
     }
-    let actor = if role.part.is_vacant {
-        Actor::vacant(alloc, place, behavior, role.stamp)?
-    } else {
-        Actor::new(alloc, place, behavior, role.stamp)?
-    };
-    Ok(actor)
+    if role.part.is_vacant {
+        return Ok(Actor::vacant(alloc, place, behavior, role.stamp)?);
+    }
+    Ok(Actor::new(alloc, place, behavior, role.stamp)?)
 }
 
 /// Whether the behaviour is of that place, and sends to these places alone.
-fn belongs(behavior: &Scripted, place: u32, count: u32) -> bool {
+fn belongs(behavior: &Scripted, place: u32, count: u32) -> bool
+    ensures { result ≡ belongs behavior.now place count }
+{
     behavior.place == place
         && are_below(behavior.peers.as_slice(), count)
         && are_below(behavior.reserve.as_slice(), count)
 }
 
-fn are_below(places: &[u32], count: u32) -> bool {
-    places.iter().all(|place| *place < count)
+fn are_below(list: &[u32], count: u32) -> bool
+    ensures { result ≡ are_below count list.now }
+{
+    list.iter().all(|place| *place < count)
 }
 
 /// The behaviour before its first input.

@@ -1,5 +1,10 @@
+ghost use Rattle.std.specs.Prelude.{◌≡◌};
+ghost use Rattle.caf_staged.specs.Phase.{is_fresh, is_going, is_resting, phase_at, phase_after};
+
+use caf_driver::DriveEnd;
+
 /// How far a run is.
-#[derive(Clone, Copy, Debug, PartialEq, Eq, Drop)]
+#[derive(Clone, Copy, Debug, Drop)]
 pub(crate) enum Phase {
     /// Nothing was played.
     Fresh,
@@ -9,4 +14,49 @@ pub(crate) enum Phase {
     Resting,
     /// Stop was played.
     Stopped,
+    /// A move is being made, or memory was wanted.
+    Broken,
+}
+
+impl Phase {
+    /// Whether nothing was played.
+    pub(crate) fn is_fresh(self) -> bool
+        ensures { result ≡ is_fresh self }
+    {
+        matches!(self, Phase::Fresh)
+    }
+
+    /// Whether Start was played.
+    pub(crate) fn is_going(self) -> bool
+        ensures { result ≡ is_going self }
+    {
+        matches!(self, Phase::Going | Phase::Resting | Phase::Stopped)
+    }
+
+    /// Whether a tick or Stop may be played.
+    pub(crate) fn is_resting(self) -> bool
+        ensures { result ≡ is_resting self }
+    {
+        matches!(self, Phase::Resting)
+    }
+
+    /// How far the run is after a drive.
+    pub(crate) fn after(self, end: DriveEnd) -> Phase
+        ensures { result ≡ phase_after self end }
+    {
+        match self {
+            Phase::Stopped => Phase::Stopped,
+            Phase::Fresh | Phase::Going | Phase::Resting | Phase::Broken => phase_at(end),
+        }
+    }
+}
+
+/// How far a run is where Stop wasn't played.
+fn phase_at(end: DriveEnd) -> Phase
+    ensures { result ≡ phase_at end }
+{
+    match end {
+        DriveEnd::Rest => Phase::Resting,
+        DriveEnd::Budget | DriveEnd::Exhausted(_) => Phase::Going,
+    }
 }

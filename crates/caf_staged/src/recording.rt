@@ -12,14 +12,14 @@ pub(crate) fn trace_of(
     starts: Words,
     actors: &[Actor<Scripted>],
 ) -> Result<Octets, PlayFault> {
-    if actors.len() > PLACES as usize {
-        return Err(PlayFault::Roles);
-    }
     let kept = RunRecord {
         journals: journals_of(alloc, actors)?,
         starts,
         cut: cut_of(actors),
     };
+    if kept.journals.len() > u64::from(PLACES) {
+        return Err(PlayFault::Roles);
+    }
     let trace = trace_text(alloc, &kept)?;
     Ok(trace)
 }

@@ -1,14 +1,20 @@
 //! A play: the driver makes the moves, as the chooser says.
-use crate::opening::opening;
+ghost use Rattle.std.specs.Prelude.{◌<◌, ◌≤◌, length};
+ghost use Rattle.caf_types.specs.Limits.{places};
+ghost use Rattle.caf_driver.specs.Opening.{AreFresh};
+ghost use Rattle.caf_scripted.specs.Scripted.{scripted_rules};
+
+use crate::opening::opening_actors;
 use crate::phase::Phase;
 use crate::recording::{cut_of, trace_of};
 use crate::reporting::{finals_of, lines_of, notes_of};
 use crate::{Always, Choice, LastPlace, Move, Outcome, PlayFault, Played, Role, SendersInTurn};
 use caf_actor::Actor;
-use caf_driver::{Chooser, DriveEnd, Driver, RoundRobin};
+use caf_driver::{Chooser, Driver, RoundRobin};
 use caf_scripted::Scripted;
 use caf_types::{Memory, Notice, OUTSIDE, Seq, TypeTable, Words};
 use std::alloc::Global;
+use std::marker::Model;
 
 /// The actors of these roles make the moves, one after the other. A move that may not be made is refused,
 /// and the play goes on.
@@ -18,7 +24,7 @@ pub fn play(
     choice: Choice,
     moves: &[Move],
 ) -> Result<Played, PlayFault> {
-    let actors = opening(alloc, roles)?;
+    let actors = opening_actors(alloc, roles)?;
     let mut run = ScriptedRun::new(alloc, actors)?;
     let outcomes = run.choose(choice, moves)?;
     run.played(stamps_of(alloc, roles)?, outcomes)
@@ -42,9 +48,28 @@ struct ScriptedRun {
     phase: Phase,
 }
 
+impl Model for ScriptedRun {
+    ghost use Rattle.std.specs.Prelude.{◌≡◌};
+    ghost use Rattle.caf_types.specs.Table.{built_in};
+    ghost use Rattle.caf_types.specs.TypeTable.{seen};
+    ghost use Rattle.caf_driver.specs.Driving.{DriverSeen, state_of};
+    ghost use Rattle.caf_scripted.specs.declared.scripted.Scripted.{Scripted};
+    ghost use Rattle.caf_staged.specs.Run.{IsSoFar};
+
+    ghost Value = { DriverSeen Scripted };
+
+    ghost view = { λ run. run.driver };
+
+    ghost invariant = { λ run. (seen run.table ≡ built_in) × IsSoFar run.phase (state_of run.driver) };
+}
+
 impl ScriptedRun {
     /// A run of these actors, in which nothing was played yet.
-    fn new(alloc: Global, actors: Seq<Actor<Scripted>>) -> Result<ScriptedRun, Memory> {
+    fn new(alloc: Global, actors: Seq<Actor<Scripted>>) -> Result<ScriptedRun, Memory>
+        requires some { 0 < length actors }
+        requires few { length actors ≤ places }
+        requires fresh { AreFresh scripted_rules actors }
+    {
         let table = TypeTable::new(alloc)?;
         let driver = Driver::new(alloc, actors)?;
         Ok(ScriptedRun {
@@ -88,40 +113,43 @@ impl ScriptedRun {
     }
 
     fn start(&mut self) -> Result<Outcome, Memory> {
-        if self.phase != Phase::Fresh {
+        if !self.phase.is_fresh() {
             return Ok(Outcome::Refused);
         }
+        self.phase = Phase::Broken;
         self.driver.play(Notice::Start)?;
         self.phase = Phase::Going;
         Ok(Outcome::Played)
     }
 
     fn tick(&mut self) -> Result<Outcome, Memory> {
-        if self.phase != Phase::Resting {
+        if !self.phase.is_resting() {
             return Ok(Outcome::Refused);
         }
+        self.phase = Phase::Broken;
         self.driver.play(Notice::Tick(OUTSIDE))?;
         self.phase = Phase::Going;
         Ok(Outcome::Played)
     }
 
     fn stop(&mut self) -> Result<Outcome, Memory> {
-        if self.phase != Phase::Resting {
+        if !self.phase.is_resting() {
             return Ok(Outcome::Refused);
         }
+        self.phase = Phase::Broken;
         self.driver.play(Notice::Stop)?;
         self.phase = Phase::Stopped;
         Ok(Outcome::Played)
     }
 
     fn drive<C: Chooser>(&mut self, chooser: &mut C, budget: u64) -> Result<Outcome, Memory> {
-        if self.phase == Phase::Fresh {
+        let before = self.phase;
+        if !before.is_going() {
             return Ok(Outcome::Refused);
         }
+        self.phase = Phase::Broken;
         let end = self.driver.drive(&self.table, chooser, budget)?;
-        if self.phase != Phase::Stopped {
-            self.phase = phase_after(end);
-        }
+        self.phase = before.after(end);
         Ok(Outcome::Ended(end))
     }
 
@@ -137,13 +165,5 @@ impl ScriptedRun {
             cut: cut_of(actors.as_slice()),
             trace: trace_of(alloc, starts, actors.as_slice())?,
         })
-    }
-}
-
-/// How far the run is after a drive, where Stop wasn't played.
-fn phase_after(end: DriveEnd) -> Phase {
-    match end {
-        DriveEnd::Rest => Phase::Resting,
-        DriveEnd::Budget | DriveEnd::Exhausted(_) => Phase::Going,
     }
 }
