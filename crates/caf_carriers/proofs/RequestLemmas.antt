@@ -13,7 +13,7 @@ use Rattle.caf_actor.specs.Carriers.{carriers_at, AreFresh}
 use Rattle.caf_actor.proofs.ResolutionLemmas.{ends_as_declared, carriers_rest}
 use Rattle.caf_record.proofs.StampedLemmas.{has_stamps}
 use Rattle.caf_record.proofs.MergeLemmas.{merge_runs}
-use Rattle.caf_carriers.specs.Requests.{HasCarriedRequests, HasStandingRequests, LegalIsCarried, CompleteStands}
+use Rattle.caf_carriers.specs.Requests.{HasCarriedRequests, HasStandingRequests, LegalIsCarried, RestingStands}
 use Rattle.caf_carriers.proofs.CountLemmas.{sum_same}
 use Rattle.caf_carriers.proofs.LawLemmas.{kept_end, one_carrier, resolves_once, waits_or_is_resolved, stands_in_one_place}
 
@@ -75,8 +75,8 @@ module _ {S : Type 0} (valid : S → Type 0) (rules : Rules S) (stays : StaysVal
   pub legal_is_carried : LegalIsCarried valid rules
   legal_is_carried ticks k ts begins legal merge = carried_requests ticks k ts begins legal merge
 
-  pub complete_stands : CompleteStands valid rules
-  complete_stands ticks k ts begins complete merge = standing_requests ticks k ts begins complete.legal merge (record {
-    taken = λ a b. (merge_runs (machine_of rules) (has_stamps rules) ticks k complete.legal ts merge).1.0.waiting a b ∙ complete.rest.taken a b;
-    idle = λ p less. ap (λ (u : Snapshot S). (machine_of rules).is_idle u) ((merge_runs (machine_of rules) (has_stamps rules) ticks k complete.legal ts merge).1.0.snapshots p) ∙ complete.rest.idle p less;
+  pub resting_stands : RestingStands valid rules
+  resting_stands ticks k ts begins legal rest merge = standing_requests ticks k ts begins legal merge (record {
+    taken = λ a b. (merge_runs (machine_of rules) (has_stamps rules) ticks k legal ts merge).1.0.waiting a b ∙ rest.taken a b;
+    idle = λ p less. ap (λ (u : Snapshot S). (machine_of rules).is_idle u) ((merge_runs (machine_of rules) (has_stamps rules) ticks k legal ts merge).1.0.snapshots p) ∙ rest.idle p less;
   })

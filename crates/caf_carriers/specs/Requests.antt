@@ -6,7 +6,7 @@ use Rattle.caf_actor.specs.declared.snapshot.Snapshot.{Snapshot}
 use Rattle.caf_actor.specs.Rules.{Rules}
 use Rattle.caf_actor.specs.Eligibility.{is_eligible}
 use Rattle.caf_actor.specs.Quitting.{all_cached}
-use Rattle.caf_actor.specs.Record.{Kept, machine_of, ends, sum_below, IsLegal, IsComplete}
+use Rattle.caf_actor.specs.Record.{Kept, machine_of, ends, sum_below, IsLegal, IsAtRest}
 use Rattle.caf_actor.specs.Run.{Turn, Step}
 use Rattle.caf_actor.specs.Merge.{IsMerge, steps_of}
 use Rattle.caf_actor.specs.Resolutions.{Ends, times_resolved, times_answered}
@@ -41,7 +41,7 @@ module _ {S : Type 0} (valid : S → Type 0) (rules : Rules S) where
   LegalIsCarried = (ticks : ℕ) (k : Kept (Snapshot S)) (ts : List Turn) → AreFresh valid rules k.places k.start → IsLegal (machine_of rules) ticks k → IsMerge k ts
       → HasCarriedRequests valid rules ticks k ts
 
-  -- and at the end of a complete one
-  abbrev pub CompleteStands : Type 0
-  CompleteStands = (ticks : ℕ) (k : Kept (Snapshot S)) (ts : List Turn) → AreFresh valid rules k.places k.start → IsComplete (machine_of rules) ticks k → IsMerge k ts
+  -- and at the end of one that is at rest, as a complete one is
+  abbrev pub RestingStands : Type 0
+  RestingStands = (ticks : ℕ) (k : Kept (Snapshot S)) (ts : List Turn) → AreFresh valid rules k.places k.start → IsLegal (machine_of rules) ticks k → IsAtRest (machine_of rules) k → IsMerge k ts
       → HasStandingRequests valid rules ticks k ts

@@ -5,7 +5,7 @@
 ghost use Rattle.caf_actor.specs.Carriers.{OneCarrier, CarrierArises, ResolvesOnce, WaitsOrIsResolved, StandsInOnePlace, ClosesAll};
 ghost use Rattle.caf_actor.specs.Record.{machine_of};
 ghost use Rattle.caf_carriers.specs.Delivery.{CompleteIsAllTaken, NoneHandledAfterQuitting};
-ghost use Rattle.caf_carriers.specs.Requests.{LegalIsCarried, CompleteStands};
+ghost use Rattle.caf_carriers.specs.Requests.{LegalIsCarried, RestingStands};
 
 use caf_actor::Behavior;
 
@@ -63,8 +63,9 @@ pub fn legal_record_is_carried<B: Behavior>()
     ensures { LegalIsCarried B.is_valid B.rules }
 {}
 
-/// At the end of a complete record, an unresolved request of an actor that hasn't quit stands in exactly
-/// one place: one hold, or one cached envelope; and no cached envelope is eligible.
-pub fn complete_record_stands<B: Behavior>()
-    ensures { CompleteStands B.is_valid B.rules }
+/// At the end of a legal record that is at rest, as a complete one is, an unresolved request of an actor
+/// that hasn't quit stands in exactly one place: one hold, or one cached envelope; and no cached envelope
+/// is eligible.
+pub fn resting_record_stands<B: Behavior>()
+    ensures { RestingStands B.is_valid B.rules }
 {}

@@ -10,7 +10,7 @@
 //! Proved, each as the contract of a function of [`laws`] that does nothing, from the laws of behaviours
 //! alone: [`laws::one_carrier`], [`laws::carrier_arises`], [`laws::resolves_once`],
 //! [`laws::waits_or_is_resolved`], [`laws::stands_in_one_place`] and [`laws::closes_all`]; and of
-//! records [`laws::legal_record_is_carried`], [`laws::complete_record_stands`] (`Requests`),
+//! records [`laws::legal_record_is_carried`], [`laws::resting_record_stands`] (`Requests`),
 //! [`laws::every_message_is_taken`] and [`laws::none_handled_after_quitting`] (`Delivery`).
 //!
 //! The contract that the layers above rest on is that of [`laws::one_carrier`], and for complete records

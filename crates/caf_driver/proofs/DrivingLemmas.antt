@@ -101,6 +101,23 @@ module _ {S : Type 0} (valid : S → Type 0) (rules : Rules S) (entries : TableE
     idle = λ i a q. (h.ready i a (ap (λ list. slice_get list i) (sym same) ∙ q)).idle;
   }
 
+  -- nothing has a later stamp than the last
+  pub low_stamps : (p : PopulationSeen S) → IsPopulation valid rules entries p → (es : List Taken) → AllByRecursion (IsSound (entry_shape entries) (length p.actors) p.latest) es → list_any (λ e. e.stamp == latest_stamp) es ≡ false → AllByRecursion (λ (e : Taken). e.stamp < latest_stamp) es
+  low_stamps p h [] all none = tt
+  low_stamps p h (e ∷ es) all none = go (e.stamp == latest_stamp) refl none (low_stamps p h es all.1)
+    where
+      most : p.latest ≤ latest_stamp
+      most = rw h.latest (greatest_least p.actors (λ i a q. (h.ready i a q).work.stamp))
+
+      go : (b : Bool) → (e.stamp == latest_stamp) ≡ b → (b || list_any (λ e. e.stamp == latest_stamp) es) ≡ false → (list_any (λ e. e.stamp == latest_stamp) es ≡ false → AllByRecursion (λ (e : Taken). e.stamp < latest_stamp) es) → AllByRecursion (λ (e : Taken). e.stamp < latest_stamp) (e ∷ es)
+      go true q none on = cc
+      go false q none on =
+          let other = not_of e.stamp latest_stamp q in
+          let low = all.0.stamp in
+          let top = most in
+          let less : e.stamp < latest_stamp = below e.stamp latest_stamp (omega arith) other in
+          (less, on none)
+
   module _ (p : PopulationSeen S) (h : IsPopulation valid rules entries p) (place : ℕ) (offered : has_place p.mail.offered place ≡ true) (fresh : (q : ℕ) → IsSpent p.actors (waiting_in p.mail) q → ⊥) where
     -- where nothing is spent, the place and what waits for it have lesser stamps than the last
     pub early_stamp : (a : ActorState S) → slice_get p.actors place ≡ Some a → a.snapshot.stamp < latest_stamp
@@ -115,22 +132,6 @@ module _ {S : Type 0} (valid : S → Type 0) (rules : Rules S) (entries : TableE
             go true q = absurd (not (same_of n latest_stamp q))
             go false q = let other = not_of n latest_stamp q in grind (arith, nat_tests)
 
-    low_stamps : (es : List Taken) → AllByRecursion (IsSound (entry_shape entries) (length p.actors) p.latest) es → list_any (λ e. e.stamp == latest_stamp) es ≡ false → AllByRecursion (λ (e : Taken). e.stamp < latest_stamp) es
-    low_stamps [] all none = tt
-    low_stamps (e ∷ es) all none = go (e.stamp == latest_stamp) refl none (low_stamps es all.1)
-      where
-        most : p.latest ≤ latest_stamp
-        most = rw h.latest (greatest_least p.actors (λ i a q. (h.ready i a q).work.stamp))
-
-        go : (b : Bool) → (e.stamp == latest_stamp) ≡ b → (b || list_any (λ e. e.stamp == latest_stamp) es) ≡ false → (list_any (λ e. e.stamp == latest_stamp) es ≡ false → AllByRecursion (λ (e : Taken). e.stamp < latest_stamp) es) → AllByRecursion (λ (e : Taken). e.stamp < latest_stamp) (e ∷ es)
-        go true q none on = cc
-        go false q none on =
-            let other = not_of e.stamp latest_stamp q in
-            let low = all.0.stamp in
-            let top = most in
-            let less : e.stamp < latest_stamp = below e.stamp latest_stamp (omega arith) other in
-            (less, on none)
-
     pub early_waiting : (a : ℕ) → AllByRecursion (λ (e : Taken). e.stamp < latest_stamp) (waiting_in p.mail a place)
     early_waiting a = go (list_any (λ e. e.stamp == latest_stamp) (waiting_in p.mail a place)) refl
       where
@@ -139,4 +140,4 @@ module _ {S : Type 0} (valid : S → Type 0) (rules : Rules S) (entries : TableE
             let known = subst (λ n. place < n) h.boxes (offered_known p.mail place h.mail offered) in
             let actor = get_some p.actors place known in
             absurd (fresh place (record { actor = actor.0; at = actor.1; waits = offered_waits p.mail place h.mail offered; last = inr (a, q) }))
-        go false q = low_stamps (waiting_in p.mail a place) (h.sound a place) q
+        go false q = low_stamps p h (waiting_in p.mail a place) (h.sound a place) q

@@ -18,3 +18,7 @@ pub mod DrivingLemmas
 pub mod TurnedLemmas
 pub mod OpeningLemmas
 pub mod PlayLemmas
+pub mod RunsLemmas
+pub mod GatherLemmas
+pub mod SteppingLemmas
+pub mod CompleteLemmas

@@ -172,6 +172,7 @@ module _ {S : Type 0} (valid : S → Type 0) (rules : Rules S) (entries : TableE
     pub driving_spoken : (after : PopulationSeen S) (stamp : ℕ) → stamp ≡ stamp_due spoken before.actors → IsPopulation valid rules entries after → HasPosted before.mail 0 (from_outside spoken stamp what) after.mail → IsDriving valid rules entries after (spoken + 1)
     driving_spoken after stamp is h posted = record {
       population = h;
+      silent = λ none. absurd (omega arith);
       heard = λ none. absurd (some_last (waiting_in before.mail outside 0) (sym (posted.waiting outside 0) ∙ none));
       notices = subst (AllByRecursion (λ (e : Taken). spoken + 1 ≤ e.stamp + 1)) (sym (posted.waiting outside 0)) (go (spoken == 0) refl);
     }

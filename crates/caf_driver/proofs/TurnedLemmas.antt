@@ -11,7 +11,7 @@ use Rattle.caf_message.specs.Envelope.{outside}
 use Rattle.caf_actor.specs.declared.snapshot.Snapshot.{Snapshot}
 use Rattle.caf_actor.specs.Actor.{ActorState}
 use Rattle.caf_actor.specs.Drain.{batch_of, stamp_due}
-use Rattle.caf_actor.specs.Record.{machine_of, IsPrefix, from_place, to_place, when, handled}
+use Rattle.caf_actor.specs.Record.{machine_of, IsPrefix, from_place, to_place, when, handled, IsAtRest}
 use Rattle.caf_actor.specs.Rules.{Rules}
 use Rattle.caf_actor.specs.Run.{without}
 use Rattle.caf_actor.proofs.StampLemmas.{taken_before, stamp_after, stamp_rises}
@@ -21,7 +21,7 @@ use Rattle.caf_driver.specs.declared.drive.DriveEnd.{DriveEnd}
 use Rattle.caf_driver.specs.declared.drive.DriveEnd.TheVariants as ends
 use Rattle.caf_driver.specs.Mail.{waiting_in}
 use Rattle.caf_driver.specs.Population.{PopulationSeen, greatest_of, IsPopulation}
-use Rattle.caf_driver.specs.Driver.{DriverState, journals_of, record_in, IsDriven}
+use Rattle.caf_driver.specs.Driver.{DriverState, journals_of, record_in, IsAllHeard, IsDriven}
 use Rattle.caf_driver.specs.Ends.{EndsSo}
 use Rattle.caf_driver.specs.Driving.{IsDriving, IsSettled, room_of, EndsNow, HasTurned}
 use Rattle.caf_driver.proofs.ListLemmas.{get_less, fields}
@@ -80,9 +80,10 @@ module _ {S : Type 0} (valid : S → Type 0) (rules : Rules S) (entries : TableE
       apart : (n : ℕ) → n < outside → (outside == n) ≡ false
       apart n less = grind (arith, nat_tests)
 
-  pub driving_turned : (spoken : ℕ) → IsDriving valid rules entries old spoken → IsDriving valid rules entries new spoken
-  driving_turned spoken was = record {
+  pub driving_turned : (spoken : ℕ) → 0 < spoken → IsDriving valid rules entries old spoken → IsDriving valid rules entries new spoken
+  driving_turned spoken some was = record {
     population = now;
+    silent = λ none. absurd (omega arith);
     heard = λ none. go (waiting_in old.mail outside 0) refl none;
     notices = subst (AllByRecursion (λ (e : Taken). spoken ≤ e.stamp + 1)) (sym outside_left) (left_all old.mail t.place t.batch t.left t.out (λ (e : Taken). spoken ≤ e.stamp + 1) outside 0 was.notices);
   }
@@ -131,6 +132,9 @@ module _ {S : Type 0} (rules : Rules S) (start : ℕ → Snapshot S) where
 
   pub few_of : (d : DriverState S) → IsSettled rules d → length (journals_of d) ≤ outside
   few_of d h = let same = fields (λ (a : ActorState S). a.journal) d.actors in let few = h.few in omega arith
+
+  pub rests_driven : (d : DriverState S) (budget : ℕ) (end : DriveEnd) → IsSettled rules d → 0 < d.spoken → IsDriven rules start d → EndsNow budget d end → end ≡ ends.Rest → IsAtRest (machine_of rules) (record_in start d) × IsAllHeard d
+  rests_driven d budget end h started driven now is = rest_driven rules start d (few_of d h) driven started (subst (λ e. EndsNow budget d e) is now) h.idle
 
   pub ends_driven : (d : DriverState S) (budget : ℕ) (end : DriveEnd) → budget ≤ 18446744073709551615 → IsSettled rules d → 0 < d.spoken → IsDriven rules start d → EndsNow budget d end → EndsSo rules start budget d end
   ends_driven d budget ends.Rest low h started driven now = rest_driven rules start d (few_of d h) driven started now h.idle

@@ -29,6 +29,8 @@ state_of d = record { actors = d.actors; waiting = waiting_in d.mail; spoken = d
 -- the population stands, and there were no more notices than stamps
 pub record IsDriving {S : Type 0} (valid : S → Type 0) (rules : Rules S) (entries : TableEntries) (p : PopulationSeen S) (spoken : ℕ) : Type 0 where
   pub population : IsPopulation valid rules entries p
+  -- before Start nothing waits
+  pub silent : spoken ≡ 0 → (a b : ℕ) → waiting_in p.mail a b ≡ []
   pub heard : waiting_in p.mail outside 0 ≡ [] → spoken ≤ p.latest
   pub notices : AllByRecursion (λ e. spoken ≤ e.stamp + 1) (waiting_in p.mail outside 0)
 

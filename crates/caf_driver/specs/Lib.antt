@@ -7,3 +7,6 @@ pub mod Driver
 pub mod Opening
 pub mod Ends
 pub mod Driving
+pub mod Runs
+pub mod Stepping
+pub mod Requests

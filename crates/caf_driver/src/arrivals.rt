@@ -1,12 +1,14 @@
 //! What waits to be taken by one place.
-ghost use Rattle.std.specs.Prelude.{◌≡◌, ◌≢◌, ℕ, ◌+◌, ◌<◌, ◌==◌, not, [], ◌∷◌, ◌++◌, length, IfOk, OnOk};
+ghost use Rattle.std.specs.Prelude.{◌≡◌, ◌≢◌, ℕ, ◌+◌, ◌-◌, ◌<◌, ◌≤◌, ◌==◌, not, true, [], ◌∷◌, ◌++◌, length, take, drop, IfOk, OnOk};
 ghost use Rattle.std.specs.List.{list_any};
 ghost use Rattle.caf_types.specs.Limits.{latest_stamp};
 ghost use Rattle.caf_message.specs.declared.envelope.Envelope.{Envelope};
 ghost use Rattle.caf_message.specs.Envelope.{plain_envelope};
 ghost use Rattle.caf_driver.specs.Places.{is_filled};
+ghost use Rattle.caf_driver.specs.Runs.{without_run, is_batch, is_offered_run, count_at, left_past, HasCounts};
 ghost use Rattle.caf_driver.specs.Arrivals.{nothing_arriving, from_sender, has_last, IsArriving, length_of, HasQueue, HasPushed, HasPopped};
 
+use crate::SenderRun;
 use crate::places::{with_place, without_place};
 use caf_message::Envelope;
 use caf_types::{LATEST_STAMP, Memory, Places, Seq};
@@ -69,6 +71,57 @@ impl Arrivals {
             }
         }
         false
+    }
+
+    /// Whether the runs name next envelopes alone, at least one, and none with the last stamp.
+    pub(crate) fn offers(&self, runs: &[SenderRun]) -> Result<bool, Memory>
+        ensures { IfOk result (λ offers. offers ≡ is_batch (from_sender self.now) runs.now) }
+    {
+        let mut taken = self.no_counts()?;
+        let mut has_some = false;
+        for run in runs {
+            if !self.offers_past(&mut taken, *run) {
+                return Ok(false);
+            }
+            has_some = has_some || run.count > 0;
+        }
+        Ok(has_some)
+    }
+
+    /// A count of 0 for each sender that has a queue.
+    fn no_counts(&self) -> Result<Vec<usize>, Memory>
+        ensures counts { IfOk result (λ taken. length taken.items ≡ length self.now.queues) }
+        ensures zero { IfOk result (λ taken. (a : ℕ) → count_at taken.items a ≡ 0) }
+    {
+        let mut taken = Vec::with_capacity(self.alloc, self.queues.len())?;
+        for _ in 0..self.queues.len() {
+            taken.push(0)?;
+        }
+        Ok(taken)
+    }
+
+    /// Whether the run is offered behind the first so many of each sender. Where it is, it counts as
+    /// taken too.
+    fn offers_past(&self, taken: &mut Vec<usize>, run: SenderRun) -> bool
+        requires counts { length taken.old.items ≡ length self.now.queues }
+        requires bound { HasCounts self.now taken.old.items }
+        ensures offered { result ≡ is_offered_run (left_past self.now taken.old.items) run }
+        ensures counts { length taken.new.items ≡ length self.now.queues }
+        ensures bound { HasCounts self.now taken.new.items }
+        ensures past { result ≡ true → (a : ℕ) → left_past self.now taken.new.items a ≡ without_run (left_past self.now taken.old.items) run a }
+    {
+        let sender = run.sender as usize;
+        if sender >= self.queues.len() {
+            return run.count == 0;
+        }
+        let queue = &self.queues[sender];
+        let from = taken[sender];
+        if ((queue.len() - from) as u64) < run.count {
+            return false;
+        }
+        let to = from + run.count as usize;
+        taken[sender] = to;
+        !is_at_end_between(queue, from, to)
     }
 
     /// Puts the envelope behind what its sender has sent. After want of memory nothing is said of what
@@ -149,4 +202,18 @@ fn is_at_end(queue: &VecDeque<Envelope>) -> bool
     ensures { result ≡ list_any (λ (e : Envelope). e.stamp == latest_stamp) queue.now.items }
 {
     queue.iter().any(|envelope| envelope.stamp == LATEST_STAMP)
+}
+
+/// Whether one of those from one position up to another has the last stamp.
+fn is_at_end_between(queue: &VecDeque<Envelope>, from: usize, to: usize) -> bool
+    requires order { from ≤ to }
+    requires bound { to ≤ length queue.now.items }
+    ensures { result ≡ list_any (λ (e : Envelope). e.stamp == latest_stamp) (take (to - from) (drop from queue.now.items)) }
+{
+    for i in from..to {
+        if queue[i].stamp == LATEST_STAMP {
+            return true;
+        }
+    }
+    false
 }

@@ -1,13 +1,15 @@
 //! How a batch is put together.
-ghost use Rattle.std.specs.Prelude.{◌≡◌, ◌≢◌, ◌<◌, [], length, true, map, IfOk, IfSome, IsSome};
+ghost use Rattle.std.specs.Prelude.{◌≡◌, ◌≢◌, ℕ, ◌<◌, ◌++◌, [], length, true, map, IfOk, OnOk, IfSome, IsSome};
 ghost use Rattle.caf_message.specs.Envelope.{plain_envelope};
 ghost use Rattle.caf_driver.specs.Places.{has_place};
 ghost use Rattle.caf_driver.specs.Mail.{waiting_in, IsMail};
 ghost use Rattle.caf_driver.specs.Delivery.{HasTakenOut};
+ghost use Rattle.caf_driver.specs.Runs.{taken_by_run, is_next, without_run, are_next};
+ghost use Rattle.caf_driver.specs.Stepping.{batch_by};
 
-use crate::Chooser;
 use crate::mail::Mail;
 use crate::places::chosen_of;
+use crate::{Chooser, SenderRun};
 use caf_message::Batch;
 use caf_types::{Memory, Seq};
 use std::alloc::Global;
@@ -59,4 +61,37 @@ fn next_sender<C: Chooser>(mail: &Mail, place: u32, is_first: bool, chooser: &mu
         None if is_first => Some(offered.as_slice()[0]),
         None => None,
     }
+}
+
+/// The batch that the runs name, which are next. After want of memory nothing is said of what waits.
+pub(crate) fn gather(
+    alloc: Global,
+    mail: &mut Mail,
+    place: u32,
+    runs: &[SenderRun],
+) -> Result<Batch, Memory>
+    requires mail { IsMail mail.old }
+    requires next { are_next (λ a. waiting_in mail.old a place) runs.now ≡ true }
+    ensures named { IfOk result (λ batch. map plain_envelope batch ≡ batch_by (waiting_in mail.old) place runs.now) }
+    ensures taken { IfOk result (λ batch. HasTakenOut mail.old place (map plain_envelope batch) mail.new) }
+{
+    let mut batch = Seq::new(alloc);
+    for run in runs {
+        gather_run(mail, place, *run, &mut batch)?;
+    }
+    Ok(batch)
+}
+
+/// What the run names comes behind the batch so far.
+fn gather_run(mail: &mut Mail, place: u32, run: SenderRun, batch: &mut Batch) -> Result<(), Memory>
+    requires mail { IsMail mail.old }
+    requires next { is_next (λ a. waiting_in mail.old a place) run ≡ true }
+    ensures named { OnOk result (map plain_envelope batch.new ≡ map plain_envelope batch.old ++ taken_by_run (λ a. waiting_in mail.old a place) run) }
+    ensures taken { OnOk result (HasTakenOut mail.old place (taken_by_run (λ a. waiting_in mail.old a place) run) mail.new) }
+    ensures left { OnOk result ((a : ℕ) → waiting_in mail.new a place ≡ without_run (λ x. waiting_in mail.old x place) run a) }
+{
+    for _ in 0..run.count {
+        batch.push(mail.pop(place, run.sender))?;
+    }
+    Ok(())
 }

@@ -1,17 +1,22 @@
-ghost use Rattle.std.specs.Prelude.{◌≡◌, ◌≢◌, ℕ, ◌<◌, ◌≤◌, ◌⊎◌, [], true, false, length, IfOk, OnOk, OnErr, IfSome, IsNone};
+ghost use Rattle.std.specs.Prelude.{◌≡◌, ◌≢◌, ℕ, ◌<◌, ◌≤◌, ◌⊎◌, [], true, false, length, Ok, IfOk, OnOk, OnErr, IfSome, IsNone};
 ghost use Rattle.caf_types.specs.Limits.{places};
 ghost use Rattle.caf_types.specs.TypeTable.{seen};
 ghost use Rattle.caf_message.specs.Entries.{HasEntries};
 ghost use Rattle.caf_message.specs.Envelope.{plain_envelope, from_outside};
 ghost use Rattle.caf_actor.specs.declared.snapshot.Snapshot.{Snapshot};
-ghost use Rattle.caf_driver.specs.Driver.{IsDriven, HasLegalRecord};
+ghost use Rattle.caf_actor.specs.Record.{machine_of, IsComplete};
+ghost use Rattle.caf_driver.specs.Driver.{record_in, ticks_in, IsDriven, HasLegalRecord};
 ghost use Rattle.caf_driver.specs.Driving.{state_of, IsSettled, room_of, EndsNow, GoesOn};
 ghost use Rattle.caf_driver.specs.Ends.{EndsSo};
+ghost use Rattle.caf_driver.specs.Requests.{CarriesRequests, KeepsRequests, ClosesRequests};
+ghost use Rattle.caf_driver.specs.declared.drive.DriveEnd.TheVariants.{Rest};
 ghost use Rattle.caf_driver.specs.Opening.{AreFresh, StartsAt, MayPlay, HasSpoken, is_stop_notice, stamp_due};
 ghost use Rattle.caf_driver.specs.Population.{IsPopulation};
+ghost use Rattle.caf_driver.specs.Mail.{waiting_in};
+ghost use Rattle.caf_driver.specs.Stepping.{MayStep, HasStepped};
 
 use crate::population::Population;
-use crate::{Chooser, DriveEnd};
+use crate::{Chooser, DriveEnd, SenderRun};
 use caf_actor::{Actor, Behavior};
 use caf_message::{Body, Envelope};
 use caf_types::{Memory, Mid, Notice, OUTSIDE, Priority, Seq, TypeTable};
@@ -70,6 +75,7 @@ impl<B: Behavior> Driver<B> {
         requires { MayPlay (state_of self.old) notice }
         ensures played { OnOk result (HasSpoken (state_of self.old) notice (stamp_due self.old.spoken self.old.actors) (state_of self.new)) }
         ensures driven { (start : ℕ → Snapshot B) → IsDriven B.rules start (state_of self.old) → OnOk result (IsDriven B.rules start (state_of self.new)) }
+        ensures legal { (start : ℕ → Snapshot B) → IsDriven B.rules start (state_of self.old) → OnOk result (HasLegalRecord B.rules start (state_of self.new)) }
         ensures whole { OnOk result ((self.old.is_broken ≡ false) × (self.new.is_broken ≡ false)) }
         ensures broken { OnErr result (self.new.is_broken ≡ true) }
         ensures unchanged { self.old.is_broken ≡ true → self.new ≡ self.old }
@@ -100,6 +106,10 @@ impl<B: Behavior> Driver<B> {
         ensures driven { (start : ℕ → Snapshot B) → IsDriven B.rules start (state_of self.old) → OnOk result (IsDriven B.rules start (state_of self.new)) }
         ensures legal { (start : ℕ → Snapshot B) → IsDriven B.rules start (state_of self.old) → OnOk result (HasLegalRecord B.rules start (state_of self.new)) }
         ensures ends { (start : ℕ → Snapshot B) → IsDriven B.rules start (state_of self.old) → IfOk result (EndsSo B.rules start budget (state_of self.new)) }
+        ensures carried { (start : ℕ → Snapshot B) → IsDriven B.rules start (state_of self.old) → OnOk result (CarriesRequests B.is_valid B.rules start (state_of self.new)) }
+        ensures standing { (start : ℕ → Snapshot B) → IsDriven B.rules start (state_of self.old) → result ≡ Ok Rest → KeepsRequests B.is_valid B.rules start (state_of self.new) }
+        ensures complete { (start : ℕ → Snapshot B) → IsDriven B.rules start (state_of self.old) → result ≡ Ok Rest → self.old.has_stopped ≡ true → 1 < self.old.spoken → IsComplete (machine_of B.rules) (ticks_in (state_of self.new)) (record_in start (state_of self.new)) }
+        ensures closed { (start : ℕ → Snapshot B) → IsDriven B.rules start (state_of self.old) → result ≡ Ok Rest → self.old.has_stopped ≡ true → 1 < self.old.spoken → ClosesRequests B.is_valid B.rules start (state_of self.new) }
         ensures notices { OnOk result ((self.new.spoken ≡ self.old.spoken) × (self.new.has_stopped ≡ self.old.has_stopped)) }
         ensures whole { OnOk result ((self.old.is_broken ≡ false) × (self.new.is_broken ≡ false)) }
         ensures broken { OnErr result (self.new.is_broken ≡ true) }
@@ -151,6 +161,37 @@ impl<B: Behavior> Driver<B> {
         self.population.turn(self.alloc, table, chooser)?;
         self.is_broken = false;
         Ok(())
+    }
+
+    /// The place takes the batch that the runs name, one run after the other, and its stamp comes back.
+    /// None, with nothing changed, exactly where there is no such place, where the runs are not next
+    /// envelopes that wait for it, where they name none, and where the place or one of them has the last
+    /// stamp.
+    pub fn step(
+        &mut self,
+        table: &TypeTable,
+        place: u32,
+        runs: &Seq<SenderRun>,
+    ) -> Result<Option<u64>, Memory>
+        requires entries { HasEntries (seen table.now) B.entries }
+        ensures stepped { IfOk result (λ answer. IfSome answer (λ stamp. HasStepped B.rules place runs.now stamp (state_of self.old) (state_of self.new))) }
+        ensures refused { IfOk result (λ answer. IsNone answer → MayStep self.old.actors (waiting_in self.old.mail) place runs.now → ⊥) }
+        ensures kept { IfOk result (λ answer. IsNone answer → self.new ≡ self.old) }
+        ensures driven { (start : ℕ → Snapshot B) → IsDriven B.rules start (state_of self.old) → OnOk result (IsDriven B.rules start (state_of self.new)) }
+        ensures legal { (start : ℕ → Snapshot B) → IsDriven B.rules start (state_of self.old) → OnOk result (HasLegalRecord B.rules start (state_of self.new)) }
+        ensures whole { OnOk result ((self.old.is_broken ≡ false) × (self.new.is_broken ≡ false)) }
+        ensures broken { OnErr result (self.new.is_broken ≡ true) }
+        ensures unchanged { self.old.is_broken ≡ true → self.new ≡ self.old }
+    {
+        if self.is_broken {
+            return Err(Memory);
+        }
+        self.is_broken = true;
+        let stamp = self
+            .population
+            .step(self.alloc, table, place, runs.as_slice())?;
+        self.is_broken = false;
+        Ok(stamp)
     }
 
     /// The actors, whose journals are the run's record.

@@ -18,7 +18,9 @@ mod driver;
 mod mail;
 mod places;
 mod population;
+mod sender_run;
 
 pub use chooser::{Chooser, RoundRobin};
 pub use drive::DriveEnd;
 pub use driver::Driver;
+pub use sender_run::SenderRun;

@@ -4,8 +4,10 @@ ghost use Rattle.std.specs.List.{list_any};
 ghost use Rattle.caf_message.specs.Envelope.{plain_envelope};
 ghost use Rattle.caf_driver.specs.Places.{is_filled};
 ghost use Rattle.caf_driver.specs.Arrivals.{has_last, HasPushed, HasPopped};
+ghost use Rattle.caf_driver.specs.Runs.{is_batch};
 ghost use Rattle.caf_driver.specs.Mail.{arriving_at, waiting_in, IsMail, length_at, HasArrivals, HasPosted, HasGiven};
 
+use crate::SenderRun;
 use crate::arrivals::Arrivals;
 use crate::places::{with_place, without_place};
 use caf_message::Envelope;
@@ -69,6 +71,15 @@ impl Mail {
         ensures { result ≡ list_any has_last (arriving_at self.now place).queues }
     {
         self.arrivals[place as usize].has_last_stamp()
+    }
+
+    /// Whether the runs name next envelopes of those that wait for the place alone, at least one, and
+    /// none with the last stamp.
+    pub(crate) fn offers(&self, place: u32, runs: &[SenderRun]) -> Result<bool, Memory>
+        requires { place < length self.now.arrivals }
+        ensures { IfOk result (λ offers. offers ≡ is_batch (λ a. waiting_in self.now a place) runs.now) }
+    {
+        self.arrivals[place as usize].offers(runs)
     }
 
     /// Puts the envelope behind what its sender has sent to the place. After want of memory nothing is

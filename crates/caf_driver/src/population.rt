@@ -15,11 +15,12 @@ ghost use Rattle.caf_driver.specs.Population.{IsSound, greatest_of, IsPopulation
 ghost use Rattle.caf_driver.specs.Driver.{IsSpent, IsFirstSpent};
 ghost use Rattle.caf_driver.specs.Driving.{HasTurned};
 ghost use Rattle.caf_driver.specs.Opening.{AreFresh};
+ghost use Rattle.caf_driver.specs.Stepping.{MayStep, HasTakenRuns};
 
-use crate::Chooser;
-use crate::collecting::{choose_place, collect};
+use crate::collecting::{choose_place, collect, gather};
 use crate::delivery::deliver;
 use crate::mail::Mail;
+use crate::{Chooser, SenderRun};
 use caf_actor::{Actor, Behavior, Post};
 use caf_message::{Batch, Envelope};
 use caf_types::{LATEST_STAMP, Memory, Seq, TypeTable};
@@ -119,6 +120,45 @@ impl<B: Behavior> Population<B> {
         let batch = collect(alloc, &mut self.mail, place, chooser)?;
         self.take(alloc, table, place, batch)?;
         Ok(())
+    }
+
+    /// The place takes the batch that the runs name, and the batch's stamp comes back; None, with nothing
+    /// changed, where it may not. After want of memory nothing is said of the population.
+    pub(crate) fn step(
+        &mut self,
+        alloc: Global,
+        table: &TypeTable,
+        place: u32,
+        runs: &[SenderRun],
+    ) -> Result<Option<u64>, Memory>
+        requires population { IsPopulation B.is_valid B.rules B.entries self.old }
+        requires entries { HasEntries (seen table.now) B.entries }
+        ensures population { OnOk result (IsPopulation B.is_valid B.rules B.entries self.new) }
+        ensures taken { IfOk result (λ answer. IfSome answer (λ stamp. HasTakenRuns B.rules place runs.now stamp self.old self.new)) }
+        ensures refused { IfOk result (λ answer. IsNone answer → MayStep self.old.actors (waiting_in self.old.mail) place runs.now → ⊥) }
+        ensures unchanged { IfOk result (λ answer. IsNone answer → self.new ≡ self.old) }
+    {
+        if !self.may_step(place, runs)? {
+            return Ok(None);
+        }
+        let batch = gather(alloc, &mut self.mail, place, runs)?;
+        let stamp = self.take(alloc, table, place, batch)?;
+        Ok(Some(stamp))
+    }
+
+    /// Whether the place may take what the runs name.
+    fn may_step(&self, place: u32, runs: &[SenderRun]) -> Result<bool, Memory>
+        requires population { IsPopulation B.is_valid B.rules B.entries self.now }
+        ensures may { IfOk result (λ may. may ≡ true → MayStep self.now.actors (waiting_in self.now.mail) place runs.now) }
+        ensures may_not { IfOk result (λ may. may ≡ false → MayStep self.now.actors (waiting_in self.now.mail) place runs.now → ⊥) }
+    {
+        if place as usize >= self.actors.len() {
+            return Ok(false);
+        }
+        if self.actors[place as usize].stamp() >= LATEST_STAMP {
+            return Ok(false);
+        }
+        self.mail.offers(place, runs)
     }
 
     /// The actor of the place takes the batch, which waited for it, and what it posts waits where it

@@ -17,6 +17,7 @@ invariant_of-result g c = λ kept.
     let made = c.in_ok-population.ensures in
     record {
       population = made.population;
+      silent = λ none. made.empty;
       heard = λ none. omega arith;
       notices = subst (AllByRecursion (λ (e : Taken). 0 ≤ e.stamp + 1)) (sym (made.empty outside 0)) tt;
     }

@@ -1,4 +1,4 @@
-use Rattle.std.proofs.Common.{◌≡◌, ◌≤◌, ◌+◌, ◌∙◌, ℕ, subst, sym, ap, refl, rules}
+use Rattle.std.proofs.Common.{◌≡◌, ◌≤◌, ◌+◌, ◌∙◌, ℕ, false, subst, sym, ap, refl, rules}
 use Rattle.caf_types.specs.Limits.{latest_stamp}
 use Rattle.caf_message.specs.Envelope.{from_outside}
 use Rattle.caf_driver.specs.Mail.{waiting_in, HasPosted}
@@ -6,6 +6,7 @@ use Rattle.caf_driver.specs.Population.{PopulationSeen}
 use Rattle.caf_driver.specs.Opening.{stamp_due}
 use Rattle.caf_driver.specs.Driving.{DriverSeen, state_of}
 use Rattle.caf_driver.proofs.DrivingLemmas.{settled_of}
+use Rattle.caf_driver.proofs.LegalLemmas.{legal_driven}
 use Rattle.caf_driver.proofs.PlayLemmas.{spoken_low, driving_spoken, has_spoken, starts_at_zero, idle_of, due_of}
 use Rattle.caf_driver.proofs.SpokenLemmas.{spoken_driven}
 use Rattle.caf_driver.proofs.TurnedLemmas.{few_of}
@@ -64,3 +65,11 @@ returns-clause-driven g c = λ start driven.
     (starts_at_zero valid meaning entries before c.self.inside.spoken driving d what c.requires same waits)
     (due_of meaning start d settled)
     (λ some. idle_of meaning start d settled) driven
+
+pub returns-clause-legal : goal.returns-clause-legal
+returns-clause-legal g c = λ start driven.
+    let meaning = g.B.Behavior.rules in
+    let after = c.notify.new.self in
+    let now : DriverSeen g.row.B.Denot = record { actors = after.actors; mail = after.mail; spoken = c.self.inside.spoken + 1; has_stopped = c.is_stop-self-inside.result; is_broken = false } in
+    let settled = settled_of g.B.Behavior.is_valid meaning g.B.Entries.entries (state_of now) after c.in_ok-notify.ensures.population refl in
+    legal_driven meaning start (state_of now) (few_of meaning start (state_of now) settled) (returns-clause-driven g c start driven)

@@ -21,7 +21,8 @@ invariant_of-self-2 g c = λ kept.
     let driving = c.self.invariant whole in
     let turned = c.in_ok-turn.ensures.turned in
     let now = c.in_ok-turn.ensures.population in
-    driving_turned valid rules entries old new driving.population now turned c.self.inside.spoken driving
+    let started = subst (λ (d : DriverSeen _). 0 < d.spoken) (sym view) c.requires.started in
+    driving_turned valid rules entries old new driving.population now turned c.self.inside.spoken started driving
 
 pub returns-clause-driven : goal.returns-clause-driven
 returns-clause-driven g c = λ start driven.
