@@ -5,16 +5,29 @@ use Rattle.caf_driver.specs.declared.drive.DriveEnd.TheVariants as ends
 use Rattle.caf_staged.specs.declared.phase.Phase.{Phase}
 use Rattle.caf_staged.specs.declared.phase.Phase.TheVariants as phase
 
+-- memory wasn't wanted
+abbrev pub is_whole : Phase → Bool
+is_whole phase.Broken = false
+is_whole _ = true
+
 abbrev pub is_fresh : Phase → Bool
 is_fresh phase.Fresh = true
 is_fresh _ = false
 
+-- Start was played
 abbrev pub is_going : Phase → Bool
 is_going phase.Going = true
 is_going phase.Resting = true
 is_going phase.Stopped = true
 is_going _ = false
 
+-- and Stop wasn't
+abbrev pub is_open : Phase → Bool
+is_open phase.Going = true
+is_open phase.Resting = true
+is_open _ = false
+
+-- and nothing waits
 abbrev pub is_resting : Phase → Bool
 is_resting phase.Resting = true
 is_resting _ = false
@@ -31,3 +44,11 @@ phase_after phase.Going end = phase_at end
 phase_after phase.Resting end = phase_at end
 phase_after phase.Stopped end = phase.Stopped
 phase_after phase.Broken end = phase_at end
+
+-- after a batch that was named and taken
+abbrev pub phase_stepped : Phase → Phase
+phase_stepped phase.Fresh = phase.Fresh
+phase_stepped phase.Going = phase.Going
+phase_stepped phase.Resting = phase.Going
+phase_stepped phase.Stopped = phase.Stopped
+phase_stepped phase.Broken = phase.Broken

@@ -1,5 +1,5 @@
 ghost use Rattle.std.specs.Prelude.{◌≡◌};
-ghost use Rattle.caf_staged.specs.Phase.{is_fresh, is_going, is_resting, phase_at, phase_after};
+ghost use Rattle.caf_staged.specs.Phase.{is_whole, is_fresh, is_going, is_resting, phase_at, phase_after, phase_stepped};
 
 use caf_driver::DriveEnd;
 
@@ -19,6 +19,13 @@ pub(crate) enum Phase {
 }
 
 impl Phase {
+    /// Whether memory wasn't wanted.
+    pub(crate) fn is_whole(self) -> bool
+        ensures { result ≡ is_whole self }
+    {
+        !matches!(self, Phase::Broken)
+    }
+
     /// Whether nothing was played.
     pub(crate) fn is_fresh(self) -> bool
         ensures { result ≡ is_fresh self }
@@ -38,6 +45,18 @@ impl Phase {
         ensures { result ≡ is_resting self }
     {
         matches!(self, Phase::Resting)
+    }
+
+    /// How far the run is after a batch that was named and taken.
+    pub(crate) fn stepped(self) -> Phase
+        ensures { result ≡ phase_stepped self }
+    {
+        match self {
+            Phase::Fresh => Phase::Fresh,
+            Phase::Going | Phase::Resting => Phase::Going,
+            Phase::Stopped => Phase::Stopped,
+            Phase::Broken => Phase::Broken,
+        }
     }
 
     /// How far the run is after a drive.

@@ -10,7 +10,7 @@ use crate::recording::{cut_of, trace_of};
 use crate::reporting::{finals_of, lines_of, notes_of};
 use crate::{Always, Choice, LastPlace, Move, Outcome, PlayFault, Played, Role, SendersInTurn};
 use caf_actor::Actor;
-use caf_driver::{Chooser, Driver, RoundRobin};
+use caf_driver::{Chooser, Driver, RoundRobin, SenderRun};
 use caf_scripted::Scripted;
 use caf_types::{Memory, Notice, OUTSIDE, Seq, TypeTable, Words};
 use std::alloc::Global;
@@ -107,6 +107,7 @@ impl ScriptedRun {
         match next {
             Move::Start => self.start(),
             Move::Drive(budget) => self.drive(chooser, budget),
+            Move::Step(place, runs) => self.step(place, runs),
             Move::Tick => self.tick(),
             Move::Stop => self.stop(),
         }
@@ -151,6 +152,21 @@ impl ScriptedRun {
         let end = self.driver.drive(&self.table, chooser, budget)?;
         self.phase = before.after(end);
         Ok(Outcome::Ended(end))
+    }
+
+    fn step(&mut self, place: u32, runs: &[SenderRun]) -> Result<Outcome, Memory> {
+        let before = self.phase;
+        if !before.is_whole() {
+            return Ok(Outcome::Refused);
+        }
+        let list = Seq::of_vec(Vec::from_slice(self.alloc, runs)?);
+        self.phase = Phase::Broken;
+        let stamp = self.driver.step(&self.table, place, &list)?;
+        self.phase = match stamp {
+            Some(_) => before.stepped(),
+            None => before,
+        };
+        Ok(Outcome::Stepped(stamp))
     }
 
     /// What came of it, with these stamps at first and these outcomes.

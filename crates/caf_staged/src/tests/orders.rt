@@ -3,7 +3,7 @@ use super::{
     Expected, THROUGH, ask, assert_played, does, last, mid, rested, role, sends, seven, told,
 };
 use crate::{Choice, Move, Outcome, PlayFault, Played, Role, play};
-use caf_driver::DriveEnd;
+use caf_driver::{DriveEnd, SenderRun};
 use caf_scripted::{Act, Cue, Note, Part, Reply, Sending, Signal};
 use caf_types::{Notice, Reason, Seq};
 use std::alloc::Global;
@@ -291,5 +291,60 @@ fn refuses_roles_that_fit_no_place(rt: HostRuntime) -> Result<(), Fail> {
         Some(PlayFault::Role(1))
     );
     assert_eq!(rt; refused(rt.alloc(), &[]), Some(PlayFault::Roles));
+    Ok(())
+}
+
+fn run(sender: u32, count: u64) -> SenderRun {
+    SenderRun { sender, count }
+}
+
+/// A batch that is named is taken only where it is made of next envelopes: not without a run, not at a place
+/// that is none, not of more than wait, not of a sender of whom nothing waits, and not twice. At place 0
+/// three wait of 1 and one of 2.
+#[test]
+fn takes_a_batch_that_is_named(rt: HostRuntime) -> Result<(), Fail> {
+    let start = [run(256, 1)];
+    let asked = [run(0, 1)];
+    let told = [run(1, 1)];
+    let too_many = [run(1, 4)];
+    let too_many_apart = [run(1, 2), run(2, 1), run(1, 2)];
+    let apart = [run(1, 2), run(2, 1), run(1, 1)];
+    let moves = [
+        Move::Step(0, start.as_slice()),
+        Move::Start,
+        Move::Step(0, &[]),
+        Move::Step(3, start.as_slice()),
+        Move::Step(0, asked.as_slice()),
+        Move::Step(0, start.as_slice()),
+        Move::Step(0, start.as_slice()),
+        Move::Step(1, asked.as_slice()),
+        Move::Step(2, told.as_slice()),
+        Move::Step(0, too_many.as_slice()),
+        Move::Step(0, too_many_apart.as_slice()),
+        Move::Step(0, apart.as_slice()),
+        Move::Drive(0),
+        Move::Stop,
+    ];
+    let none = Outcome::Stepped(None);
+    let expected = [
+        none,
+        Outcome::Played,
+        none,
+        none,
+        none,
+        Outcome::Stepped(Some(1)),
+        none,
+        Outcome::Stepped(Some(2)),
+        Outcome::Stepped(Some(3)),
+        none,
+        none,
+        Outcome::Stepped(Some(4)),
+        Outcome::Ended(DriveEnd::Rest),
+        Outcome::Played,
+    ];
+    let played = three(rt.alloc(), Choice::RoundRobin, moves.as_slice())?;
+    assert_eq!(rt; played.outcomes.as_slice(), expected.as_slice());
+    let text = "t 0 1 256\nt 1 2 0\nt 2 3 1\nt 0 4 1*2 2 1\n";
+    assert_eq!(rt; played.trace.as_slice(), text.as_bytes());
     Ok(())
 }

@@ -17,9 +17,9 @@ loop-place-preserved c =
     record {
       count = length_more before actor c.push.new.self c.loop-place.place added count;
       fresh = λ p a q.
-        with_one_more (λ (i : ℕ) (b : ActorState Scripted). IsFresh scripted_rules n i b) before actor c.loop-place.invariant.fresh
-        (subst (λ (i : ℕ). IsFresh scripted_rules n i actor) (sym count) c.in_ok-actor.ensures) p a
-        (subst (λ (xs : List (ActorState Scripted)). slice_get xs p ≡ Some a) added q);
+          with_one_more (λ (i : ℕ) (b : ActorState Scripted). IsFresh scripted_rules n i b) before actor c.loop-place.invariant.fresh
+          (subst (λ (i : ℕ). IsFresh scripted_rules n i actor) (sym count) c.in_ok-actor.ensures) p a
+          (subst (λ (xs : List (ActorState Scripted)). slice_get xs p ≡ Some a) added q);
     }
 
 pub returns-clause-fresh : goal.returns-clause-fresh
