@@ -3,4 +3,4 @@ use Rattle.caf_scripted.proofs.BatchLemmas.{has_numbers}
 use Rattle.caf_staged.proofs.run.ScriptedRun.step.Goals as goal
 
 pub step-requires : goal.step-requires
-step-requires c = has_numbers (seen c.self.inside.table) c.self.invariant.0
+step-requires c = record { entries = has_numbers (seen c.self.inside.table) c.self.invariant.0 }
