@@ -1,5 +1,5 @@
 -- What holds of a driver of scripted actors, by how far its run is.
-use Rattle.std.specs.Prelude.{◌≡◌, ℕ, ◌<◌, true, false, List, []}
+use Rattle.std.specs.Prelude.{◌≡◌, ℕ, ◌<◌, true, false, []}
 use Rattle.caf_actor.specs.declared.snapshot.Snapshot.{Snapshot}
 use Rattle.caf_driver.specs.Driver.{DriverState, IsDriven}
 use Rattle.caf_scripted.specs.declared.scripted.Scripted.{Scripted}

@@ -1,4 +1,4 @@
-use Rattle.std.proofs.Common.{◌≡◌, ℕ, ◌+◌, List, length, Some, subst, sym, arith}
+use Rattle.std.proofs.Common.{◌≡◌, ℕ, List, length, Some, subst, sym, arith}
 use Rattle.std.specs.Prelude.{slice_get}
 use Rattle.caf_actor.specs.Actor.{ActorState}
 use Rattle.caf_driver.specs.Opening.{IsFresh}
