@@ -75,6 +75,13 @@ pub type Alarm = Atom<224>;
 /// `ring`
 pub type Ring = Atom<225>;
 
+impl<const ID: u16> Atom<ID> {
+    /// The one value.
+    pub const fn new() -> Atom<ID> {
+        Atom
+    }
+}
+
 impl<const ID: u16> Spelled for Atom<ID> {
     ghost shape = { unit };
 
