@@ -41,7 +41,7 @@ deliveries who origin words (h ∷ hs) all = (record { targets = tt; content = (
 
 deliveries_count : (hs : List Held) → outputs_count (map delivered hs) ≡ 0
 deliveries_count [] = refl
-deliveries_count (h ∷ hs) = deliveries_count hs
+deliveries_count (h ∷ hs) = omega (arith, deliveries_count hs)
 
 settles_keeps : (d : List ℕ → Bool) (s : Holder) (origin : Origin) (words : List ℕ) → AreTexts s.held → has settling words ≡ true → Keeps d s (Content origin words) (settles s)
 settles_keeps d s origin words valid e = record {

@@ -11,6 +11,7 @@ pub mod Calc
 pub mod Quitter
 pub mod Holder
 pub mod Kinds
+pub mod Starting
 pub mod Keeping
 pub mod EchoLaws
 pub mod CellLaws

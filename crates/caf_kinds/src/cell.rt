@@ -47,7 +47,7 @@ impl Cell {
         ensures value { result.now ≡ cell.interface }
         ensures valid { is_i64 self.now.value ≡ true }
     {
-        let _ = self.value;
+        know(self.value);
         self.identity.interface()
     }
 
@@ -55,7 +55,7 @@ impl Cell {
         ensures value { result.now ≡ self.now.identity.reserve }
         ensures valid { is_i64 self.now.value ≡ true }
     {
-        let _ = self.value;
+        know(self.value);
         self.identity.reserve()
     }
 
@@ -112,4 +112,11 @@ impl Cell {
             None => Ok(answers(alloc, failed())),
         }
     }
+}
+
+/// That a number has 64 bits.
+fn know(value: i64)
+    ensures { is_i64 value ≡ true }
+{
+    let _ = value;
 }
