@@ -38,10 +38,10 @@ answers_well d s origin words =
     on_if (Answers d s origin words) (has adding words) (on_two sum (asked adding words)) _
     (λ e. two_answers d s origin words (type_ids adding) e refl sum (asked adding words))
     (λ _. on_if (Answers d s origin words) (has subtracting words) (on_two difference (asked subtracting words)) _
-      (λ e. two_answers d s origin words (type_ids subtracting) e refl difference (asked subtracting words))
-      (λ _. on_if (Answers d s origin words) (has multiplying words) (on_two product (asked multiplying words)) failed
-        (λ e. two_answers d s origin words (type_ids multiplying) e refl product (asked multiplying words))
-        (λ _. tt)))
+    (λ e. two_answers d s origin words (type_ids subtracting) e refl difference (asked subtracting words))
+    (λ _. on_if (Answers d s origin words) (has multiplying words) (on_two product (asked multiplying words)) failed
+    (λ e. two_answers d s origin words (type_ids multiplying) e refl product (asked multiplying words))
+    (λ _. tt)))
 
 abbrev pub Keeps : (List ℕ → Bool) → Calc → PlainInput → Reacted Calc → Type 0
 Keeps d s i r = IsLawful (fixed s.identity interface) (fixed r.0.identity interface) (Unit {0}) d i r.1

@@ -32,8 +32,8 @@ given_keeps d s origin words valid =
     on_if (Keeps d s i) (has putting words) (put s (asked putting words)) _
     (λ e. put_keeps d s origin words valid e (asked putting words) refl)
     (λ _. on_if (Keeps d s i) (has getting words) (s, answers (signed s.value)) (s, answers failed)
-      (λ e. answer_kept me me (is_i64 s.value ≡ true) d i (signed s.value) refl valid (answers_by interface (type_ids getting) origin words _ e refl (signed_sound s.value valid)))
-      (λ _. failed_kept me (is_i64 s.value ≡ true) d i valid))
+    (λ e. answer_kept me me (is_i64 s.value ≡ true) d i (signed s.value) refl valid (answers_by interface (type_ids getting) origin words _ e refl (signed_sound s.value valid)))
+    (λ _. failed_kept me (is_i64 s.value ≡ true) d i valid))
 
 pub keeps : (d : List ℕ → Bool) (s : Cell) (i : PlainInput) → is_i64 s.value ≡ true → Keeps d s i (reacted s i)
 keeps d s (Content origin words) valid = given_keeps d s origin words valid

@@ -22,10 +22,10 @@ given_keeps d s origin words =
     on_if (Keeps d s i) (has of_text words) _ _
     (λ e. answer_kept me me (Unit {0}) d i (answer.Value words) refl tt (answers_itself interface (type_ids of_text) origin words e refl))
     (λ _. on_if (Keeps d s i) (has waking words) (asleep false s, answers done) _
-      (λ e. answer_kept me me (Unit {0}) d i done refl tt (answers_by interface (type_ids waking) origin words _ e refl unit_sound))
-      (λ _. on_if (Keeps d s i) (has resting words) (asleep true s, answers done) (s, answers failed)
-        (λ e. answer_kept me me (Unit {0}) d i done refl tt (answers_by interface (type_ids resting) origin words _ e refl unit_sound))
-        (λ _. failed_kept me (Unit {0}) d i tt)))
+    (λ e. answer_kept me me (Unit {0}) d i done refl tt (answers_by interface (type_ids waking) origin words _ e refl unit_sound))
+    (λ _. on_if (Keeps d s i) (has resting words) (asleep true s, answers done) (s, answers failed)
+    (λ e. answer_kept me me (Unit {0}) d i done refl tt (answers_by interface (type_ids resting) origin words _ e refl unit_sound))
+    (λ _. failed_kept me (Unit {0}) d i tt)))
 
 pub keeps : (d : List ℕ → Bool) (s : Echo) (i : PlainInput) → Keeps d s i (reacted s i)
 keeps d s (Content origin words) = given_keeps d s origin words

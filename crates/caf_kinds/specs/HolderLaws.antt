@@ -58,11 +58,11 @@ given_keeps d s origin words valid =
     let i = Content origin words in
     on_if (Keeps d s i) (has of_text words) (if is_asked origin then holds s origin (asked of_text words) else (s, quiet)) _
     (λ _. on_if (Keeps d s i) (is_asked origin) (holds s origin (asked of_text words)) (s, quiet)
-      (λ _. holds_keeps d s origin words valid (asked of_text words) refl)
-      (λ e. quiet_kept me (AreTexts s.held) d i valid e))
+    (λ _. holds_keeps d s origin words valid (asked of_text words) refl)
+    (λ e. quiet_kept me (AreTexts s.held) d i valid e))
     (λ _. on_if (Keeps d s i) (has settling words) (settles s) (s, answers failed)
-      (λ e. settles_keeps d s origin words valid e)
-      (λ _. failed_kept me (AreTexts s.held) d i valid))
+    (λ e. settles_keeps d s origin words valid e)
+    (λ _. failed_kept me (AreTexts s.held) d i valid))
 
 pub keeps : (d : List ℕ → Bool) (s : Holder) (i : PlainInput) → AreTexts s.held → Keeps d s i (reacted s i)
 keeps d s (Content origin words) valid = given_keeps d s origin words valid

@@ -73,7 +73,7 @@ sound_fits : (shape_of : ℕ → Option ShapeTree) → Grows shape_of → (words
 sound_fits shape_of grows words (types, is) =
     Fits-more (shape_at core) shape_of grows words
     (subst (Fits (shape_at core)) (sym is.words_are)
-      (content_fits (shape_at core) (type_ids types) (type_shapes types) is.values is.core (several_spelled (type_shapes types) is.values is.fit is.range)))
+    (content_fits (shape_at core) (type_ids types) (type_shapes types) is.values is.core (several_spelled (type_shapes types) is.values is.fit is.range)))
 
 all_map : {A : Type 0} (P Q : A → Type 0) → ((x : A) → P x → Q x) → (xs : List A) → AllByRecursion P xs → AllByRecursion Q xs
 all_map P Q f [] all = tt

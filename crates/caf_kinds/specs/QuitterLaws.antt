@@ -38,8 +38,8 @@ reaction_lawful d s origin words =
     on_if (Lawful d s i) (has leaving words) (leaves (asked leaving words)) _
     (λ e. leaves_lawful d s origin words e (asked leaving words))
     (λ _. on_if (Lawful d s i) (has of_text words) (answers (answer.Value words)) (answers failed)
-      (λ e. answer_kept me me (Unit {0}) d i (answer.Value words) refl tt (answers_itself interface (type_ids of_text) origin words e refl))
-      (λ _. failed_kept me (Unit {0}) d i tt))
+    (λ e. answer_kept me me (Unit {0}) d i (answer.Value words) refl tt (answers_itself interface (type_ids of_text) origin words e refl))
+    (λ _. failed_kept me (Unit {0}) d i tt))
 
 pub keeps : (d : List ℕ → Bool) (s : Quitter) (i : PlainInput) → Keeps d s i (reacted s i)
 keeps d s (Content origin words) = reaction_lawful d s origin words

@@ -125,10 +125,7 @@ pub(crate) fn takes<I: Row, R: Row>(
 }
 
 /// The interface of signatures whose inputs differ.
-pub(crate) fn interface(
-    alloc: Global,
-    signatures: Seq<Signature>,
-) -> Result<Interface, Memory>
+pub(crate) fn interface(alloc: Global, signatures: Seq<Signature>) -> Result<Interface, Memory>
     requires { IsTrue (inputs_differ signatures) }
     ensures { IfOk result (λ interface. interface ≡ signatures) }
 {

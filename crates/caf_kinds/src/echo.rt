@@ -36,11 +36,7 @@ pub struct Echo {
 }
 
 impl Echo {
-    pub(crate) fn react(
-        &mut self,
-        alloc: Global,
-        input: Input,
-    ) -> Result<Reaction, Memory>
+    pub(crate) fn react(&mut self, alloc: Global, input: Input) -> Result<Reaction, Memory>
         ensures { IfOk result (λ reaction. (self.new, plain_reaction reaction) ≡ echo.reacted self.old (plain_input input)) }
     {
         match input {

@@ -107,12 +107,7 @@ impl Behavior for Kind {
 
 impl Kind {
     /// Gives the input to the kind.
-    fn meet(
-        &mut self,
-        alloc: Global,
-        table: &TypeTable,
-        input: Input,
-    ) -> Result<Reaction, Memory>
+    fn meet(&mut self, alloc: Global, table: &TypeTable, input: Input) -> Result<Reaction, Memory>
         requires entries { HasEntries (seen table.now) core_entries }
         requires fits { InputFits (shape_at (seen table.now)) (plain_input input) }
         ensures { IfOk result (λ reaction. (self.new, plain_reaction reaction) ≡ kinds.reacted self.old (plain_input input)) }

@@ -17,7 +17,7 @@ pub returns-in-Ok-clause-row : goal.returns-in-Ok-clause-row
 returns-in-Ok-clause-row g c =
     let t = seen c.args.table.now in
     sym (asked_is_meant (shape_at t) c.args.message.now.content g.T.Row.ids g.T.Row.shapes (g.T.Row.means c.in-Ok.row)
-      (table_has t c.requires.entries g.T.Row.ids g.T.Row.shapes c.requires.known) c.in-Ok.ensures.row)
+    (table_has t c.requires.entries g.T.Row.ids g.T.Row.shapes c.requires.known) c.in-Ok.ensures.row)
 
 pub returns-in-Err-Types-clause-row : goal.returns-in-Err-Types-clause-row
 returns-in-Err-Types-clause-row g c =
