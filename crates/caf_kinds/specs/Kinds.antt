@@ -1,0 +1,94 @@
+-- What each kind of actor is: one line a kind in each definition.
+use Rattle.std.specs.Prelude.{◌≡◌, ℕ, ◌==◌, Bool, true, false, List, [], length}
+use Rattle.caf_signature.specs.declared.interface.Signature.{Signature}
+use Rattle.caf_words.specs.Datum.{is_i64}
+use Rattle.caf_actor.specs.PlainInput.{PlainInput}
+use Rattle.caf_actor.specs.PlainReaction.{PlainReaction}
+use Rattle.caf_actor.specs.Rules.{Rules}
+use Rattle.caf_kinds.specs.Who.{Who, Fixed, fixed}
+use Rattle.caf_kinds.specs.Reacting.{Reacted}
+use Rattle.caf_kinds.specs.Held.{AreTexts}
+use Rattle.caf_kinds.specs.Echo as echo
+use Rattle.caf_kinds.specs.Cell as cell
+use Rattle.caf_kinds.specs.Calc as calc
+use Rattle.caf_kinds.specs.Holder as holder
+use Rattle.caf_kinds.specs.Quitter as quitter
+use Rattle.caf_kinds.specs.declared.setup.KindName.{KindName}
+use Rattle.caf_kinds.specs.declared.setup.KindName.TheVariants as name
+use Rattle.caf_kinds.specs.declared.kind.Kind.{Kind}
+use Rattle.caf_kinds.specs.declared.kind.Kind.TheVariants as kind
+
+-- what a kind takes
+abbrev pub interface_of : KindName → List Signature
+interface_of name.Echo = echo.interface
+interface_of name.Cell = cell.interface
+interface_of name.Calc = calc.interface
+interface_of name.Holder = holder.interface
+interface_of name.Quitter = quitter.interface
+
+-- how many peers an actor of the kind may have
+abbrev pub has_peers : KindName → ℕ → Bool
+has_peers name.Echo n = n == 0
+has_peers name.Cell n = n == 0
+has_peers name.Calc n = n == 0
+has_peers name.Holder n = n == 0
+has_peers name.Quitter n = n == 0
+
+-- ---- an actor of some kind
+
+abbrev pub name_of : Kind → KindName
+name_of (kind.Echo s) = name.Echo
+name_of (kind.Cell s) = name.Cell
+name_of (kind.Calc s) = name.Calc
+name_of (kind.Holder s) = name.Holder
+name_of (kind.Quitter s) = name.Quitter
+
+abbrev pub who : Kind → Who
+who (kind.Echo s) = s.identity
+who (kind.Cell s) = s.identity
+who (kind.Calc s) = s.identity
+who (kind.Holder s) = s.identity
+who (kind.Quitter s) = s.identity
+
+-- what holds of every value that occurs
+abbrev pub IsValid : Kind → Type 0
+IsValid (kind.Cell s) = is_i64 s.value ≡ true
+IsValid (kind.Holder s) = AreTexts s.held
+IsValid _ = Unit {0}
+
+abbrev pub skips : Kind → List ℕ → Bool
+skips (kind.Echo s) ids = echo.skips s ids
+skips _ ids = false
+
+-- no kind passes content on
+abbrev pub delegates : Kind → List ℕ → Bool
+delegates k ids = false
+
+-- a value of one kind, after an input, as one of some kind
+abbrev pub as_kind : {S : Type 0} → (S → Kind) → Reacted S → Reacted Kind
+as_kind wrap r = (wrap r.0, r.1)
+
+abbrev pub reacted : Kind → PlainInput → Reacted Kind
+reacted (kind.Echo s) i = as_kind kind.Echo (echo.reacted s i)
+reacted (kind.Cell s) i = as_kind kind.Cell (cell.reacted s i)
+reacted (kind.Calc s) i = as_kind kind.Calc (calc.reacted s i)
+reacted (kind.Holder s) i = as_kind kind.Holder (holder.reacted s i)
+reacted (kind.Quitter s) i = as_kind kind.Quitter (quitter.reacted s i)
+
+abbrev pub interface : Kind → List Signature
+interface k = interface_of (name_of k)
+
+abbrev pub fixed_of : Kind → Fixed
+fixed_of k = fixed (who k) (interface k)
+
+abbrev pub kind_rules : Rules Kind
+kind_rules = record {
+  place = λ k. (who k).place;
+  interface = interface;
+  peers = λ k. (who k).peers;
+  reserve = λ k. (who k).reserve;
+  skips = skips;
+  delegates = delegates;
+  next = λ k i. (reacted k i).0;
+  reaction = λ k i. (reacted k i).1;
+}

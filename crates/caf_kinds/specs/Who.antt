@@ -1,0 +1,17 @@
+-- Who an actor is: what no reaction changes.
+use Rattle.std.specs.Prelude.{ℕ, List}
+use Rattle.caf_signature.specs.declared.interface.Signature.{Signature}
+
+-- its place, its peers, and the places of its children
+pub record Who : Type 0 where
+  pub place : ℕ
+  pub peers : List ℕ
+  pub reserve : List ℕ
+
+-- that, and what it takes
+pub record Fixed : Type 0 where
+  pub who : Who
+  pub interface : List Signature
+
+abbrev pub fixed : Who → List Signature → Fixed
+fixed who interface = record { who = who; interface = interface }

@@ -1,0 +1,29 @@
+use caf_types::Places;
+
+/// The kinds of actors.
+#[derive(Clone, Copy, Debug, PartialEq, Eq, Drop)]
+pub enum KindName {
+    /// Answers a text with itself; while it sleeps it keeps texts for later.
+    Echo,
+    /// Keeps a number.
+    Cell,
+    /// Answers sums, differences and products.
+    Calc,
+    /// Holds texts until it is told to settle.
+    Holder,
+    /// Quits for the reason that it is told.
+    Quitter,
+}
+
+/// How an actor is set up.
+#[derive(Debug, Drop)]
+pub struct Setup {
+    /// What kind of actor it is.
+    pub kind: KindName,
+    /// Whom it sends to.
+    pub peers: Places,
+    /// Whether it is asleep at first. An echo alone may be.
+    pub asleep: bool,
+    /// The places of its children.
+    pub reserve: Places,
+}

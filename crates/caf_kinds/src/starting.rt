@@ -1,0 +1,72 @@
+//! How an actor of each kind begins.
+ghost use Rattle.std.specs.Prelude.{◌≡◌, None, IfOk};
+ghost use Rattle.std.specs.Option.{option_copied};
+ghost use Rattle.caf_kinds.specs.Starting.{CanStart, started, who_of};
+ghost use Rattle.caf_kinds.specs.Kinds as kinds;
+
+use crate::{
+    Calc, CalcKind, Cell, CellKind, Echo, EchoKind, HeldTexts, Holder, HolderKind, Identity, Kind,
+    KindName, Quitter, QuitterKind, Setup, Step, Typed,
+};
+use caf_types::{Memory, Octets, Places, Seq};
+use std::alloc::Global;
+
+impl Kind {
+    /// The behaviour of the actor at that place, as its setup says. The setups of `places` are those of
+    /// the places from 1 on. The script is the conductor's, and the files are a source's; the kinds so
+    /// far keep neither.
+    pub fn start(
+        alloc: Global,
+        place: u32,
+        setup: &Setup,
+        places: &Seq<Setup>,
+        script: &Seq<Step>,
+        files: Seq<Octets>,
+    ) -> Result<Kind, Memory>
+        requires { CanStart place setup.now places.now script.now files }
+        ensures { IfOk result (λ kind. kind ≡ started (who_of place setup.now) setup.now setup.now.kind) }
+    {
+        let _ = (places, script, files);
+        match setup.kind {
+            KindName::Echo => Ok(Kind::Echo(Echo {
+                identity: identity(alloc, EchoKind, place, setup)?,
+                is_asleep: setup.asleep,
+            })),
+            KindName::Cell => Ok(Kind::Cell(Cell {
+                identity: identity(alloc, CellKind, place, setup)?,
+                value: 0,
+            })),
+            KindName::Calc => Ok(Kind::Calc(Calc {
+                identity: identity(alloc, CalcKind, place, setup)?,
+            })),
+            KindName::Holder => Ok(Kind::Holder(Holder {
+                identity: identity(alloc, HolderKind, place, setup)?,
+                held: HeldTexts::new(alloc),
+            })),
+            KindName::Quitter => Ok(Kind::Quitter(Quitter {
+                identity: identity(alloc, QuitterKind, place, setup)?,
+            })),
+        }
+    }
+}
+
+/// Who the actor at that place is.
+fn identity<K: Typed>(
+    alloc: Global,
+    kind: K,
+    place: u32,
+    setup: &Setup,
+) -> Result<Identity<K>, Memory>
+    ensures { IfOk result (λ it. it ≡ who_of place setup.now) }
+{
+    let peers = copied(alloc, &setup.peers)?;
+    let reserve = copied(alloc, &setup.reserve)?;
+    Identity::new(alloc, kind, place, peers, reserve)
+}
+
+fn copied(alloc: Global, places: &Places) -> Result<Places, Memory>
+    ensures { IfOk result (λ copy. copy ≡ places.now) }
+{
+    let copy = Vec::from_slice(alloc, places.as_slice())?;
+    Ok(Places::of_vec(copy))
+}
