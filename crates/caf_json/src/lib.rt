@@ -2,7 +2,7 @@
 //!
 //! Model: which JSON values are the form of a value of a shape is a relation, `HasJson` of the
 //! specifications; reading down to the first unfit part is a function, proved to be the same relation.
-//! This crate alone stands on `serde_json`.
+//! This crate and `caf_scenario` alone stand on `serde_json`.
 //!
 //! The contract that the layer above rests on: [`JsonSaver::finish`] gives the form of the value that was
 //! saved, and [`value_of_json`] takes exactly the forms of the shape, with the path to the first unfit

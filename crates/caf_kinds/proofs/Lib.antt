@@ -1,3 +1,10 @@
+pub mod AlarmLemmas
 pub mod AskedLemmas
 pub mod DifferLemmas
 pub mod KindExamples
+pub mod LineLemmas
+pub mod ShortLineLemmas
+pub mod ChunkPlaceLemmas
+pub mod QuestionLemmas
+pub mod SourceLemmas
+pub mod SightLemmas

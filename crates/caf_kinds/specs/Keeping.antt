@@ -69,7 +69,7 @@ asked_is ids shapes words values e = go (bytes_eq ids (ids_in words)) refl
 pub unit_sound : IsSound unit_content
 unit_sound = (of_unit, record { core = refl; values = more a_unit no_data; words_are = refl; fit = refl; range = refl })
 
-below : (n : ℕ) → nat_lt (min n 18446744073709551615) 18446744073709551616 ≡ true
+pub below : (n : ℕ) → nat_lt (min n 18446744073709551615) 18446744073709551616 ≡ true
 below n = lt-ltb (min n 18446744073709551615) 18446744073709551616 (omega arith)
 
 pub unsigned_sound : (n : ℕ) → IsSound (unsigned_content n)

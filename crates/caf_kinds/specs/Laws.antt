@@ -33,6 +33,14 @@ use Rattle.caf_kinds.specs.CellLaws as cell
 use Rattle.caf_kinds.specs.CalcLaws as calc
 use Rattle.caf_kinds.specs.HolderLaws as holder
 use Rattle.caf_kinds.specs.QuitterLaws as quitter
+use Rattle.caf_kinds.specs.SourceLaws as source
+use Rattle.caf_kinds.specs.RelayLaws as relay
+use Rattle.caf_kinds.specs.CounterLaws as counter
+use Rattle.caf_kinds.specs.LinesLaws as lines
+use Rattle.caf_kinds.specs.CollectorLaws as collector
+use Rattle.caf_kinds.specs.WatcherLaws as watcher
+use Rattle.caf_kinds.specs.SpawnerLaws as spawner
+use Rattle.caf_kinds.specs.AlarmLaws as alarm
 use Rattle.caf_kinds.specs.declared.kind.Kind.{Kind}
 use Rattle.caf_kinds.specs.declared.kind.Kind.TheVariants as kind
 use Rattle.caf_kinds.specs.Kinds.{interface, fixed_of, IsValid, skips, delegates, reacted, kind_rules}
@@ -48,6 +56,14 @@ keeps (kind.Cell s) i valid given = cell.keeps (delegates (kind.Cell s)) s i val
 keeps (kind.Calc s) i valid given = calc.keeps (delegates (kind.Calc s)) s i
 keeps (kind.Holder s) i valid given = holder.keeps (delegates (kind.Holder s)) s i valid
 keeps (kind.Quitter s) i valid given = quitter.keeps (delegates (kind.Quitter s)) s i
+keeps (kind.Source s) i valid given = source.keeps (delegates (kind.Source s)) s i valid
+keeps (kind.Relay s) i valid given = relay.keeps s i
+keeps (kind.Counter s) i valid given = counter.keeps (delegates (kind.Counter s)) s i
+keeps (kind.Lines s) i valid given = lines.keeps (delegates (kind.Lines s)) s i
+keeps (kind.Collector s) i valid given = collector.keeps (delegates (kind.Collector s)) s i
+keeps (kind.Watcher s) i valid given = watcher.keeps (delegates (kind.Watcher s)) s i valid
+keeps (kind.Spawner s) i valid given = spawner.keeps s i valid
+keeps (kind.Alarm s) i valid given = alarm.keeps (delegates (kind.Alarm s)) s i
 
 -- ---- the types of the kinds' table
 

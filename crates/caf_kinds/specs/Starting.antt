@@ -12,8 +12,12 @@ use Rattle.caf_message.specs.Content.{content_of}
 use Rattle.caf_message.specs.Fits.{HaveShapes}
 use Rattle.caf_actor.specs.Rules.{is_input}
 use Rattle.caf_kinds.specs.Core.{core}
+use Rattle.std.specs.FinMap as finite
 use Rattle.caf_kinds.specs.Who.{Who}
+use Rattle.caf_kinds.specs.Source as source
 use Rattle.caf_kinds.specs.Kinds.{interface_of, has_peers}
+use Rattle.caf_kinds.specs.Sights.{no_sights}
+use Rattle.caf_kinds.specs.Alarms.{no_alarms}
 use Rattle.caf_kinds.specs.declared.setup.KindName.{KindName}
 use Rattle.caf_kinds.specs.declared.setup.KindName.TheVariants as name
 use Rattle.caf_kinds.specs.declared.setup.Setup.{Setup}
@@ -80,9 +84,17 @@ who_of place setup = record { place = place; peers = setup.peers; reserve = setu
 
 -- ---- what it is at first: one line a kind
 
-abbrev pub started : Who → Setup → KindName → Kind
-started who setup name.Echo = kind.Echo (record { identity = who; is_asleep = setup.asleep })
-started who setup name.Cell = kind.Cell (record { identity = who; value = pos 0 })
-started who setup name.Calc = kind.Calc (record { identity = who })
-started who setup name.Holder = kind.Holder (record { identity = who; held = [] })
-started who setup name.Quitter = kind.Quitter (record { identity = who })
+abbrev pub started : Who → Setup → List (List ℕ) → KindName → Kind
+started who setup files name.Echo = kind.Echo (record { identity = who; is_asleep = setup.asleep })
+started who setup files name.Cell = kind.Cell (record { identity = who; value = pos 0 })
+started who setup files name.Calc = kind.Calc (record { identity = who })
+started who setup files name.Holder = kind.Holder (record { identity = who; held = [] })
+started who setup files name.Quitter = kind.Quitter (record { identity = who })
+started who setup files name.Source = kind.Source (source.started who files)
+started who setup files name.Relay = kind.Relay (record { identity = who })
+started who setup files name.Counter = kind.Counter (record { identity = who; count = 0 })
+started who setup files name.Lines = kind.Lines (record { identity = who })
+started who setup files name.Collector = kind.Collector (record { identity = who; index = finite.empty; tally = record { postings = 0; extents = 0; lines = 0; bytes = 0; chunks = None }; held = [] })
+started who setup files name.Watcher = kind.Watcher (record { identity = who; sights = no_sights })
+started who setup files name.Spawner = kind.Spawner (record { identity = who; started = 0; passed = 0 })
+started who setup files name.Alarm = kind.Alarm (record { identity = who; alarms = no_alarms })

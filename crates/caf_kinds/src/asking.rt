@@ -1,21 +1,23 @@
 //! What content asks, and the messages that many kinds answer.
 ghost use Rattle.std.specs.Prelude.{◌≡◌, ◌++◌, ◌∷◌, [], ◌≤◌, length, map, bytes_eq, IsTrue, IfOk, OnOk, IfSome};
-ghost use Rattle.std.specs.Option.{option_map};
+ghost use Rattle.std.specs.Option.{option_map, option_copied};
 ghost use Rattle.caf_types.specs.TypeTable.{seen};
+ghost use Rattle.caf_words.specs.Several.{ids_of};
 ghost use Rattle.caf_message.specs.Content.{ids_in, content_of};
 ghost use Rattle.caf_message.specs.Entries.{HasEntries};
 ghost use Rattle.caf_message.specs.Fits.{FitsTable};
-ghost use Rattle.caf_actor.specs.PlainForms.{plain_answer, plain_reaction};
+ghost use Rattle.caf_actor.specs.PlainForms.{plain_answer, plain_output, plain_reaction};
 ghost use Rattle.caf_kinds.specs.Core.{core_entries};
 ghost use Rattle.caf_kinds.specs.Asking.{AreCoreRow, asked_of, signature, unit_content, unsigned_content, signed_content, inputs_differ};
 ghost use Rattle.caf_kinds.specs.Lawful.{IsRowContent};
+ghost use Rattle.caf_kinds.specs.Pipeline as pipeline;
 ghost use Rattle.caf_kinds.specs.Reacting as reacting;
 
 use crate::{One, Signed, Unit, Unsigned};
-use caf_actor::{Answer, Reaction};
+use caf_actor::{Answer, Output, Reaction};
 use caf_message::{Message, MessageFault, ViewFault};
 use caf_signature::{Interface, Signature};
-use caf_types::{Memory, Sec, Seq, TypeTable};
+use caf_types::{Memory, Priority, Sec, Seq, TypeId, TypeTable};
 use caf_words::Row;
 use std::alloc::Global;
 
@@ -26,6 +28,13 @@ pub(crate) fn has<T: Row>(alloc: Global, message: &mut Message) -> Result<bool, 
 {
     let types = T::types(alloc)?;
     Ok(message.has_types(types.as_slice()))
+}
+
+/// Whether these are the wanted types.
+pub(crate) fn has_same_ids(wanted: &[TypeId], types: &[TypeId]) -> bool
+    ensures { result ≡ bytes_eq (ids_of wanted.now) (ids_of types.now) }
+{
+    wanted == types
 }
 
 /// The row that the content means; None where it has other types.
@@ -106,6 +115,43 @@ pub(crate) fn answers(alloc: Global, answer: Answer) -> Reaction
         outputs: Seq::new(alloc),
         answer,
         quit: None,
+    }
+}
+
+/// Content to a peer, where there is that peer, and the answer unit.
+pub(crate) fn sends(alloc: Global, peer: Option<&u32>, message: Message) -> Result<Reaction, Memory>
+    ensures { IfOk result (λ reaction. plain_reaction reaction ≡ pipeline.sends (pipeline.to_peer (option_copied peer.entry) message.content)) }
+{
+    let mut outputs = Seq::new(alloc);
+    tell(&mut outputs, peer, message)?;
+    Ok(Reaction {
+        outputs,
+        answer: done(alloc)?,
+        quit: None,
+    })
+}
+
+/// Adds content to a peer, where there is that peer.
+pub(crate) fn tell(
+    outputs: &mut Seq<Output>,
+    peer: Option<&u32>,
+    message: Message,
+) -> Result<(), Memory>
+    ensures { OnOk result (map plain_output outputs.new ≡ map plain_output outputs.old ++ pipeline.to_peer (option_copied peer.entry) message.content) }
+{
+    match peer {
+        Some(peer) => outputs.push(Output::Tell(*peer, Priority::Normal, message)),
+        None => Ok(()),
+    }
+}
+
+/// It is passed on to a peer, where there is that peer.
+pub(crate) fn passed_to(peer: Option<&u32>) -> Answer
+    ensures { plain_answer result ≡ pipeline.passed_to (option_copied peer.entry) }
+{
+    match peer {
+        Some(peer) => Answer::Delegate(*peer),
+        None => failed(),
     }
 }
 

@@ -1,10 +1,10 @@
 //! An echo answers a text with itself; while it sleeps it keeps texts for later.
-ghost use Rattle.std.specs.Prelude.{◌≡◌, bytes_eq, IfOk};
+ghost use Rattle.std.specs.Prelude.{◌≡◌, IfOk};
 ghost use Rattle.caf_words.specs.Several.{ids_of};
 ghost use Rattle.caf_actor.specs.PlainForms.{plain_input, plain_reaction};
 ghost use Rattle.caf_kinds.specs.Echo as echo;
 
-use crate::asking::{answers, done, failed, has, interface, quiet, takes};
+use crate::asking::{answers, done, failed, has, has_same_ids, interface, quiet, takes};
 use crate::{Identity, One, Rest, Text, Typed, Unit, Wake};
 use caf_actor::{Answer, Input, Reaction};
 use caf_message::Message;
@@ -74,10 +74,4 @@ impl Echo {
     {
         self.is_asleep && has_same_ids([TypeId(4)].as_slice(), types.as_slice())
     }
-}
-
-fn has_same_ids(wanted: &[TypeId], types: &[TypeId]) -> bool
-    ensures { result ≡ bytes_eq (ids_of wanted.now) (ids_of types.now) }
-{
-    wanted == types
 }

@@ -1,5 +1,7 @@
-ghost use Rattle.std.specs.Prelude.{◌≡◌, List, IfOk};
+ghost use Rattle.std.specs.Prelude.{◌≡◌, ◌<◌, ◌≤◌, List, length, IfOk};
+ghost use Rattle.std.specs.List.{AllByRecursion};
 ghost use Rattle.caf_signature.specs.declared.interface.Signature.{Signature};
+ghost use Rattle.caf_kinds.specs.Who.{IsWho};
 
 use caf_signature::Interface;
 use caf_types::{Memory, Places};
@@ -17,7 +19,7 @@ pub trait Typed: Drop {
 }
 
 /// Who an actor of the kind `K` is: its place, its peers, the places of its children, and its
-/// interface. No reaction changes it.
+/// interface. No reaction changes it. It has at most 255 peers, and the places are below 256.
 #[derive(Debug, Drop)]
 pub struct Identity<K: Typed> {
     kind: K,
@@ -29,13 +31,14 @@ pub struct Identity<K: Typed> {
 
 impl<K: Typed> Model for Identity<K> {
     ghost use Rattle.std.specs.Prelude.{◌≡◌};
-    ghost use Rattle.caf_kinds.specs.Who.{Who};
+    ghost use Rattle.caf_kinds.specs.Who.{Who, IsWho};
+    ghost use Rattle.caf_kinds.specs.Identity.{IsIdentity};
 
     ghost Value = { Who };
 
     ghost view = { λ it. record { place = it.place; peers = it.peers; reserve = it.reserve } };
 
-    ghost invariant = { λ it. it.interface ≡ K.interface };
+    ghost invariant = { λ it. IsIdentity K.interface it.interface (record { place = it.place; peers = it.peers; reserve = it.reserve }) };
 }
 
 impl<K: Typed> Identity<K> {
@@ -47,6 +50,8 @@ impl<K: Typed> Identity<K> {
         peers: Places,
         reserve: Places,
     ) -> Result<Identity<K>, Memory>
+        requires few { length peers ≤ 255 }
+        requires places { AllByRecursion (λ p. p < 256) reserve }
         ensures { IfOk result (λ it. it ≡ record { place = place; peers = peers; reserve = reserve }) }
     {
         let interface = K::interface(alloc)?;
@@ -61,14 +66,31 @@ impl<K: Typed> Identity<K> {
 
     /// What the kind takes.
     pub(crate) fn interface(&self) -> &Interface
-        ensures { result.now ≡ K.interface }
+        ensures value { result.now ≡ K.interface }
+        ensures who { IsWho self.now }
     {
         &self.interface
     }
 
+    /// Its place.
+    pub(crate) fn place(&self) -> u32
+        ensures { result ≡ self.now.place }
+    {
+        self.place
+    }
+
+    /// Whom it sends to.
+    pub(crate) fn peers(&self) -> &Places
+        ensures value { result.now ≡ self.now.peers }
+        ensures who { IsWho self.now }
+    {
+        &self.peers
+    }
+
     /// The places of its children.
     pub(crate) fn reserve(&self) -> &Places
-        ensures { result.now ≡ self.now.reserve }
+        ensures value { result.now ≡ self.now.reserve }
+        ensures who { IsWho self.now }
     {
         &self.reserve
     }

@@ -1,4 +1,5 @@
 ghost use Rattle.std.specs.Prelude.{◌≡◌, IfOk};
+ghost use Rattle.std.specs.Option.{option_copied};
 ghost use Rattle.caf_types.specs.TypeTable.{seen};
 ghost use Rattle.caf_types.specs.Table.{shape_at};
 ghost use Rattle.caf_words.specs.Several.{ids_of};
@@ -9,8 +10,14 @@ ghost use Rattle.caf_kinds.specs.Core.{core_entries};
 ghost use Rattle.caf_kinds.specs.Kinds as kinds;
 ghost use Rattle.caf_kinds.specs.Laws as laws;
 
-use crate::{Calc, Cell, Echo, Holder, Quitter};
+use crate::relay::delegates;
+use crate::spawner::passes_on;
+use crate::{
+    AlarmClock, Calc, Cell, Collector, Counter, Echo, Holder, Lines, Quitter, Relay, Source,
+    Spawner, Watcher,
+};
 use caf_actor::{Behavior, Input, Reaction};
+use caf_index::Index;
 use caf_message::Entries;
 use caf_signature::Interface;
 use caf_types::{Memory, Places, TypeIds, TypeTable};
@@ -29,6 +36,22 @@ pub enum Kind {
     Holder(Holder),
     /// See [`Quitter`].
     Quitter(Quitter),
+    /// See [`Source`].
+    Source(Source),
+    /// See [`Relay`].
+    Relay(Relay),
+    /// See [`Counter`].
+    Counter(Counter),
+    /// See [`Lines`].
+    Lines(Lines),
+    /// See [`Collector`].
+    Collector(Collector),
+    /// See [`Watcher`].
+    Watcher(Watcher),
+    /// See [`Spawner`].
+    Spawner(Spawner),
+    /// See [`AlarmClock`].
+    Alarm(AlarmClock),
 }
 
 impl Entries for Kind {
@@ -47,6 +70,14 @@ impl Behavior for Kind {
             Kind::Calc(calc) => calc.identity.interface(),
             Kind::Holder(holder) => holder.interface(),
             Kind::Quitter(quitter) => quitter.identity.interface(),
+            Kind::Source(source) => source.interface(),
+            Kind::Relay(relay) => relay.identity.interface(),
+            Kind::Counter(counter) => counter.identity.interface(),
+            Kind::Lines(lines) => lines.identity.interface(),
+            Kind::Collector(collector) => collector.identity.interface(),
+            Kind::Watcher(watcher) => watcher.interface(),
+            Kind::Spawner(spawner) => spawner.identity.interface(),
+            Kind::Alarm(alarm) => alarm.identity.interface(),
         }
     }
 
@@ -57,18 +88,51 @@ impl Behavior for Kind {
             Kind::Calc(calc) => calc.identity.reserve(),
             Kind::Holder(holder) => holder.reserve(),
             Kind::Quitter(quitter) => quitter.identity.reserve(),
+            Kind::Source(source) => source.reserve(),
+            Kind::Relay(relay) => relay.identity.reserve(),
+            Kind::Counter(counter) => counter.identity.reserve(),
+            Kind::Lines(lines) => lines.identity.reserve(),
+            Kind::Collector(collector) => collector.identity.reserve(),
+            Kind::Watcher(watcher) => watcher.reserve(),
+            Kind::Spawner(spawner) => spawner.identity.reserve(),
+            Kind::Alarm(alarm) => alarm.identity.reserve(),
         }
     }
 
     fn skips(&self, types: &TypeIds) -> bool {
         match self {
             Kind::Echo(echo) => echo.skips(types),
-            Kind::Cell(_) | Kind::Calc(_) | Kind::Holder(_) | Kind::Quitter(_) => false,
+            Kind::Cell(_)
+            | Kind::Calc(_)
+            | Kind::Holder(_)
+            | Kind::Quitter(_)
+            | Kind::Source(_)
+            | Kind::Relay(_)
+            | Kind::Counter(_)
+            | Kind::Lines(_)
+            | Kind::Collector(_)
+            | Kind::Watcher(_)
+            | Kind::Spawner(_)
+            | Kind::Alarm(_) => false,
         }
     }
 
-    fn delegates(&self, _types: &TypeIds) -> bool {
-        false
+    fn delegates(&self, types: &TypeIds) -> bool {
+        match self {
+            Kind::Relay(_) => delegates(types),
+            Kind::Spawner(_) => passes_on(types),
+            Kind::Echo(_)
+            | Kind::Cell(_)
+            | Kind::Calc(_)
+            | Kind::Holder(_)
+            | Kind::Quitter(_)
+            | Kind::Source(_)
+            | Kind::Counter(_)
+            | Kind::Lines(_)
+            | Kind::Collector(_)
+            | Kind::Watcher(_)
+            | Kind::Alarm(_) => false,
+        }
     }
 
     fn react(
@@ -118,6 +182,35 @@ impl Kind {
             Kind::Calc(calc) => calc.react(alloc, table, input),
             Kind::Holder(holder) => holder.react(alloc, table, input),
             Kind::Quitter(quitter) => quitter.react(alloc, table, input),
+            Kind::Source(source) => source.react(alloc, input),
+            Kind::Relay(relay) => relay.react(alloc, table, input),
+            Kind::Counter(counter) => counter.react(alloc, table, input),
+            Kind::Lines(lines) => lines.react(alloc, table, input),
+            Kind::Collector(collector) => collector.react(alloc, table, input),
+            Kind::Watcher(watcher) => watcher.react(alloc, table, input),
+            Kind::Spawner(spawner) => spawner.react(alloc, input),
+            Kind::Alarm(alarm) => alarm.react(alloc, table, input),
+        }
+    }
+
+    /// What a collector has put together so far. None exactly where it is no collector.
+    pub fn index(&self) -> Option<&Index>
+        ensures { option_copied result ≡ kinds.index_of self.now }
+    {
+        match self {
+            Kind::Collector(collector) => Some(&collector.index),
+            Kind::Echo(_)
+            | Kind::Cell(_)
+            | Kind::Calc(_)
+            | Kind::Holder(_)
+            | Kind::Quitter(_)
+            | Kind::Source(_)
+            | Kind::Relay(_)
+            | Kind::Counter(_)
+            | Kind::Lines(_)
+            | Kind::Watcher(_)
+            | Kind::Spawner(_)
+            | Kind::Alarm(_) => None,
         }
     }
 }

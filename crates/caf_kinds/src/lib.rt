@@ -1,4 +1,4 @@
-//! The kinds of actors, and the types that they speak with: so far echo, cell, calc, holder and quitter.
+//! The kinds of actors, and the types that they speak with: all but the conductor, which is to come.
 //!
 //! Model: a [`Kind`] is the value of one of these kinds, which is that of its fields; an [`Identity`] is
 //! seen as place, peers and places of children. Each kind has a page of its own in `specs`, which says
@@ -14,44 +14,75 @@
 //! definitions of `Kinds`, `Starting` and `Laws`.
 #![tactic(auto)]
 
+mod alarm;
+mod alarms;
 mod asking;
 mod atom;
 mod calc;
 mod cell;
+mod collector;
 mod contents;
+mod counter;
 mod echo;
 mod element;
+mod file_chunks;
 mod held;
 mod holder;
 mod identity;
 mod kind;
+mod lines;
+mod peers;
+mod place;
 mod plain;
+mod questions;
 mod quitter;
+mod relay;
 mod row;
 mod script;
 mod setup;
+mod sights;
+mod signal;
+mod source;
+mod spawner;
 mod starting;
 mod table;
+mod tally;
+mod watcher;
 
+pub use alarm::{AlarmClock, AlarmKind};
+pub use alarms::{Alarms, Asker};
 pub use atom::{
     Add, Alarm, Atom, Count, Get, Index, Leave, Link, More, Mul, Put, Rest, Ring, Seen, Settle,
     Spawn, Start, Sub, Totals, Unit, Wake, Watch,
 };
 pub use calc::{Calc, CalcKind};
 pub use cell::{Cell, CellKind};
+pub use collector::{Collector, CollectorKind};
 pub use contents::{Chunk, Extent, Finish, Item, Postings, Summary, Total};
+pub use counter::{Counter, CounterKind};
 pub use echo::{Echo, EchoKind};
 pub use element::Element;
+pub use file_chunks::FileChunks;
 pub use held::HeldTexts;
 pub use holder::{Holder, HolderKind};
 pub use identity::{Identity, Typed};
 pub use kind::Kind;
+pub use lines::{Lines, LinesKind};
+pub use place::{PlaceList, PlaceNumber};
 pub use plain::{Signed, Text, Unsigned};
+pub use questions::{HeldQuestion, HeldQuestions, Question};
 pub use quitter::{Quitter, QuitterKind};
+pub use relay::{Relay, RelayKind};
 pub use row::{One, Three, Two};
 pub use script::{Step, StepReply};
 pub use setup::{KindName, Setup};
+pub use sights::{Sights, Sought};
+pub use signal::Signal;
+pub use source::{Source, SourceKind, Stage};
+pub use spawner::{Spawner, SpawnerKind};
 pub use table::core_table;
+pub use tally::Tally;
+pub use watcher::{Watcher, WatcherKind};
 
 #[cfg(test)]
 mod tests;

@@ -13,6 +13,22 @@ pub enum KindName {
     Holder,
     /// Quits for the reason that it is told.
     Quitter,
+    /// Tells the chunks of its files.
+    Source,
+    /// Hands chunks on in lower case, each to one of its peers.
+    Relay,
+    /// Tells the postings of chunks.
+    Counter,
+    /// Tells how many lines and bytes chunks have.
+    Lines,
+    /// Puts postings into an index, and adds up lines and bytes.
+    Collector,
+    /// Watches and links its peers, and tells which places have quit.
+    Watcher,
+    /// Starts its children, and lets them add in turn.
+    Spawner,
+    /// Answers after as many ticks as it is asked for.
+    Alarm,
 }
 
 /// How an actor is set up.

@@ -1,12 +1,15 @@
 //! How an actor of each kind begins.
-ghost use Rattle.std.specs.Prelude.{◌≡◌, None, IfOk};
+ghost use Rattle.std.specs.Prelude.{◌≡◌, ◌<◌, ◌≤◌, None, length, IfOk};
+ghost use Rattle.std.specs.List.{AllByRecursion};
 ghost use Rattle.std.specs.Option.{option_copied};
 ghost use Rattle.caf_kinds.specs.Starting.{CanStart, started, who_of};
 ghost use Rattle.caf_kinds.specs.Kinds as kinds;
 
 use crate::{
-    Calc, CalcKind, Cell, CellKind, Echo, EchoKind, HeldTexts, Holder, HolderKind, Identity, Kind,
-    KindName, Quitter, QuitterKind, Setup, Step, Typed,
+    AlarmClock, AlarmKind, Alarms, Calc, CalcKind, Cell, CellKind, Collector, CollectorKind,
+    Counter, CounterKind, Echo, EchoKind, HeldTexts, Holder, HolderKind, Identity, Kind, KindName,
+    Lines, LinesKind, Quitter, QuitterKind, Relay, RelayKind, Setup, Sights, Source, SourceKind,
+    Spawner, SpawnerKind, Step, Typed, Watcher, WatcherKind,
 };
 use caf_types::{Memory, Octets, Places, Seq};
 use std::alloc::Global;
@@ -14,7 +17,7 @@ use std::alloc::Global;
 impl Kind {
     /// The behaviour of the actor at that place, as its setup says. The setups of `places` are those of
     /// the places from 1 on. The script is the conductor's, and the files are a source's; the kinds so
-    /// far keep neither.
+    /// far keep no script.
     pub fn start(
         alloc: Global,
         place: u32,
@@ -24,9 +27,10 @@ impl Kind {
         files: Seq<Octets>,
     ) -> Result<Kind, Memory>
         requires { CanStart place setup.now places.now script.now files }
-        ensures { IfOk result (λ kind. kind ≡ started (who_of place setup.now) setup.now setup.now.kind) }
+        ensures { IfOk result (λ kind. kind ≡ started (who_of place setup.now) setup.now files setup.now.kind) }
     {
-        let _ = (places, script, files);
+        let _ = places;
+        let _ = script;
         match setup.kind {
             KindName::Echo => Ok(Kind::Echo(Echo {
                 identity: identity(alloc, EchoKind, place, setup)?,
@@ -46,6 +50,38 @@ impl Kind {
             KindName::Quitter => Ok(Kind::Quitter(Quitter {
                 identity: identity(alloc, QuitterKind, place, setup)?,
             })),
+            KindName::Source => Ok(Kind::Source(Source::new(
+                alloc,
+                identity(alloc, SourceKind, place, setup)?,
+                files,
+            )?)),
+            KindName::Relay => Ok(Kind::Relay(Relay {
+                identity: identity(alloc, RelayKind, place, setup)?,
+            })),
+            KindName::Counter => Ok(Kind::Counter(Counter {
+                identity: identity(alloc, CounterKind, place, setup)?,
+                count: 0,
+            })),
+            KindName::Lines => Ok(Kind::Lines(Lines {
+                identity: identity(alloc, LinesKind, place, setup)?,
+            })),
+            KindName::Collector => Ok(Kind::Collector(Collector::new(
+                alloc,
+                identity(alloc, CollectorKind, place, setup)?,
+            ))),
+            KindName::Watcher => Ok(Kind::Watcher(Watcher {
+                identity: identity(alloc, WatcherKind, place, setup)?,
+                sights: Sights::new(alloc),
+            })),
+            KindName::Spawner => Ok(Kind::Spawner(Spawner {
+                identity: identity(alloc, SpawnerKind, place, setup)?,
+                started: 0,
+                passed: 0,
+            })),
+            KindName::Alarm => Ok(Kind::Alarm(AlarmClock {
+                identity: identity(alloc, AlarmKind, place, setup)?,
+                alarms: Alarms::new(alloc),
+            })),
         }
     }
 }
@@ -57,6 +93,8 @@ fn identity<K: Typed>(
     place: u32,
     setup: &Setup,
 ) -> Result<Identity<K>, Memory>
+    requires few { length setup.now.peers ≤ 255 }
+    requires places { AllByRecursion (λ p. p < 256) setup.now.reserve }
     ensures { IfOk result (λ it. it ≡ who_of place setup.now) }
 {
     let peers = copied(alloc, &setup.peers)?;

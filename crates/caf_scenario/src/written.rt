@@ -1,0 +1,48 @@
+//! What a document in form says: its actors and its steps, as they are written.
+
+use caf_response::Mode;
+use caf_types::{Letters, Name, Priority, Reason, Seq};
+use serde_json::Value as Json;
+
+/// An actor.
+#[derive(Debug, Drop)]
+pub(crate) struct WrittenActor {
+    pub(crate) name: Name,
+    /// Any text.
+    pub(crate) kind: Letters,
+    pub(crate) peers: Seq<Name>,
+    /// How many places it reserves.
+    pub(crate) children: u32,
+    pub(crate) asleep: bool,
+}
+
+/// How content is sent.
+#[derive(Clone, Copy, Debug, PartialEq, Eq, Drop)]
+pub(crate) enum Way {
+    /// Without a response.
+    Tell,
+    /// As a request.
+    Request(Mode),
+    /// As a request that fails after so many ticks.
+    Within(Mode, u32),
+}
+
+/// A step.
+#[derive(Drop)]
+pub(crate) enum WrittenStep<'a> {
+    /// Content: how, to whom, the elements of its message, and how urgent.
+    Send(Way, Name, &'a [Json], Priority),
+    /// An exit notice: to whom, and for which reason.
+    Exit(Name, Reason),
+    /// It waits until no request waits.
+    Sync,
+    /// It waits for a tick.
+    Tick,
+}
+
+/// A document.
+#[derive(Drop)]
+pub(crate) struct Written<'a> {
+    pub(crate) actors: Seq<WrittenActor>,
+    pub(crate) script: Seq<WrittenStep<'a>>,
+}

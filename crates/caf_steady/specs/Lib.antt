@@ -1,0 +1,4 @@
+pub mod Outline
+pub mod Reading
+pub mod Steady
+pub mod Classes
