@@ -1,4 +1,6 @@
 pub mod AlarmLemmas
+pub mod PlanningLemmas
+pub mod ClosingLemmas
 pub mod AskedLemmas
 pub mod DifferLemmas
 pub mod KindExamples

@@ -22,6 +22,8 @@ use Rattle.caf_kinds.specs.Collector as collector
 use Rattle.caf_kinds.specs.Watcher as watcher
 use Rattle.caf_kinds.specs.Spawner as spawner
 use Rattle.caf_kinds.specs.Alarm as alarm
+use Rattle.caf_script.specs.Reply.{Reply}
+use Rattle.caf_kinds.specs.Conductor as conductor
 use Rattle.caf_kinds.specs.declared.setup.KindName.{KindName}
 use Rattle.caf_kinds.specs.declared.setup.KindName.TheVariants as name
 use Rattle.caf_kinds.specs.declared.kind.Kind.{Kind}
@@ -42,6 +44,7 @@ interface_of name.Collector = collector.interface
 interface_of name.Watcher = watcher.interface
 interface_of name.Spawner = spawner.interface
 interface_of name.Alarm = alarm.interface
+interface_of name.Conductor = conductor.interface
 
 -- how many peers an actor of the kind may have
 abbrev pub has_peers : KindName → ℕ → Bool
@@ -58,6 +61,8 @@ has_peers name.Collector n = n == 0
 has_peers name.Watcher n = nat_le n 255
 has_peers name.Spawner n = n == 0
 has_peers name.Alarm n = n == 0
+-- all others are its peers, whatever it is set up with
+has_peers name.Conductor n = true
 
 -- ---- an actor of some kind
 
@@ -75,6 +80,7 @@ name_of (kind.Collector s) = name.Collector
 name_of (kind.Watcher s) = name.Watcher
 name_of (kind.Spawner s) = name.Spawner
 name_of (kind.Alarm s) = name.Alarm
+name_of (kind.Conductor s) = name.Conductor
 
 abbrev pub who : Kind → Who
 who (kind.Echo s) = s.identity
@@ -90,6 +96,7 @@ who (kind.Collector s) = s.identity
 who (kind.Watcher s) = s.identity
 who (kind.Spawner s) = s.identity
 who (kind.Alarm s) = s.identity
+who (kind.Conductor s) = s.identity
 
 -- what holds of every value that occurs
 abbrev pub IsValid : Kind → Type 0
@@ -98,6 +105,7 @@ IsValid (kind.Holder s) = AreTexts s.held
 IsValid (kind.Source s) = source.IsValid s
 IsValid (kind.Watcher s) = watcher.IsWatching s
 IsValid (kind.Spawner s) = IsWho s.identity
+IsValid (kind.Conductor s) = conductor.IsConducting s
 IsValid _ = Unit {0}
 
 abbrev pub skips : Kind → List ℕ → Bool
@@ -108,6 +116,11 @@ skips _ ids = false
 abbrev pub index_of : Kind → Option Entries
 index_of (kind.Collector s) = Some s.index
 index_of _ = None
+
+-- what became of a conductor's steps
+abbrev pub replies_of : Kind → Option (List Reply)
+replies_of (kind.Conductor s) = Some s.script.replies
+replies_of _ = None
 
 -- what a kind passes on
 abbrev pub delegates : Kind → List ℕ → Bool
@@ -133,6 +146,7 @@ reacted (kind.Collector s) i = as_kind kind.Collector (collector.reacted s i)
 reacted (kind.Watcher s) i = as_kind kind.Watcher (watcher.reacted s i)
 reacted (kind.Spawner s) i = as_kind kind.Spawner (spawner.reacted s i)
 reacted (kind.Alarm s) i = as_kind kind.Alarm (alarm.reacted s i)
+reacted (kind.Conductor s) i = as_kind kind.Conductor (conductor.reacted s i)
 
 abbrev pub interface : Kind → List Signature
 interface k = interface_of (name_of k)

@@ -41,6 +41,7 @@ use Rattle.caf_kinds.specs.CollectorLaws as collector
 use Rattle.caf_kinds.specs.WatcherLaws as watcher
 use Rattle.caf_kinds.specs.SpawnerLaws as spawner
 use Rattle.caf_kinds.specs.AlarmLaws as alarm
+use Rattle.caf_kinds.specs.ConductorLaws as conductor
 use Rattle.caf_kinds.specs.declared.kind.Kind.{Kind}
 use Rattle.caf_kinds.specs.declared.kind.Kind.TheVariants as kind
 use Rattle.caf_kinds.specs.Kinds.{interface, fixed_of, IsValid, skips, delegates, reacted, kind_rules}
@@ -64,6 +65,7 @@ keeps (kind.Collector s) i valid given = collector.keeps (delegates (kind.Collec
 keeps (kind.Watcher s) i valid given = watcher.keeps (delegates (kind.Watcher s)) s i valid
 keeps (kind.Spawner s) i valid given = spawner.keeps s i valid
 keeps (kind.Alarm s) i valid given = alarm.keeps (delegates (kind.Alarm s)) s i
+keeps (kind.Conductor s) i valid given = conductor.keeps (delegates (kind.Conductor s)) s i valid
 
 -- ---- the types of the kinds' table
 

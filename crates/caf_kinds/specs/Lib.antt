@@ -26,8 +26,12 @@ pub mod Watcher
 pub mod Spawner
 pub mod Alarms
 pub mod Alarm
+pub mod Conductor
 pub mod Kinds
 pub mod Peers
+pub mod Setups
+pub mod Planning
+pub mod Closing
 pub mod Starting
 pub mod Keeping
 pub mod EchoLaws
@@ -47,4 +51,5 @@ pub mod SightLaws
 pub mod WatcherLaws
 pub mod SpawnerLaws
 pub mod AlarmLaws
+pub mod ConductorLaws
 pub mod Laws

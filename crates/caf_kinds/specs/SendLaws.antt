@@ -9,7 +9,7 @@ use Rattle.caf_actor.specs.Rules.{outputs_count, output_count}
 use Rattle.caf_kinds.specs.Who.{Who}
 use Rattle.caf_kinds.specs.Lawful.{IsTarget, IsLawfulOutput}
 
-contains_first : {A : Type 0} (x : A) (xs : List A) → Contains (x ∷ xs) x
+pub contains_first : {A : Type 0} (x : A) (xs : List A) → Contains (x ∷ xs) x
 contains_first x xs = (0, omega arith, refl)
 
 contains_behind : {A : Type 0} (before : List A) (xs : List A) → AllByRecursion (Contains (before ++ xs)) xs

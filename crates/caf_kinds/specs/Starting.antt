@@ -16,6 +16,8 @@ use Rattle.std.specs.FinMap as finite
 use Rattle.caf_kinds.specs.Who.{Who}
 use Rattle.caf_kinds.specs.Source as source
 use Rattle.caf_kinds.specs.Kinds.{interface_of, has_peers}
+use Rattle.caf_kinds.specs.Setups.{setup_at}
+use Rattle.caf_kinds.specs.Planning.{conductor_of}
 use Rattle.caf_kinds.specs.Sights.{no_sights}
 use Rattle.caf_kinds.specs.Alarms.{no_alarms}
 use Rattle.caf_kinds.specs.declared.setup.KindName.{KindName}
@@ -41,10 +43,6 @@ pub record IsMessage (types : List TypeId) (values : List Value) : Type 0 where
   pub known : HaveShapes (shape_at core) (ids_of types) shapes
   pub fit : several_fit shapes (data_of (map datum values)) ≡ true
   pub small : length (content_of (ids_of types) (data_of (map datum values))) ≤ 4194304
-
--- the place is that of one of the actors, which have the places from 1 on
-abbrev pub setup_at : List Setup → ℕ → Option Setup
-setup_at places to = if to == 0 then None else slice_get places (to - 1)
 
 abbrev pub Takes : Option Setup → List TypeId → Type 0
 Takes None types = ⊥
@@ -74,6 +72,7 @@ pub record CanStart (place : ℕ) (setup : Setup) (places : List Setup) (script 
   pub place_is : place < 256
   pub reserve : AllByRecursion (λ p. p < 256) setup.reserve
   pub peers : has_peers setup.kind (length setup.peers) ≡ true
+  pub conducts : setup.kind ≡ name.Conductor → place ≡ 0
   pub few : length places ≤ 255
   pub steps : length script ≤ 1000
   pub typed : AllByRecursion (IsTypedStep places) script
@@ -84,17 +83,18 @@ who_of place setup = record { place = place; peers = setup.peers; reserve = setu
 
 -- ---- what it is at first: one line a kind
 
-abbrev pub started : Who → Setup → List (List ℕ) → KindName → Kind
-started who setup files name.Echo = kind.Echo (record { identity = who; is_asleep = setup.asleep })
-started who setup files name.Cell = kind.Cell (record { identity = who; value = pos 0 })
-started who setup files name.Calc = kind.Calc (record { identity = who })
-started who setup files name.Holder = kind.Holder (record { identity = who; held = [] })
-started who setup files name.Quitter = kind.Quitter (record { identity = who })
-started who setup files name.Source = kind.Source (source.started who files)
-started who setup files name.Relay = kind.Relay (record { identity = who })
-started who setup files name.Counter = kind.Counter (record { identity = who; count = 0 })
-started who setup files name.Lines = kind.Lines (record { identity = who })
-started who setup files name.Collector = kind.Collector (record { identity = who; index = finite.empty; tally = record { postings = 0; extents = 0; lines = 0; bytes = 0; chunks = None }; held = [] })
-started who setup files name.Watcher = kind.Watcher (record { identity = who; sights = no_sights })
-started who setup files name.Spawner = kind.Spawner (record { identity = who; started = 0; passed = 0 })
-started who setup files name.Alarm = kind.Alarm (record { identity = who; alarms = no_alarms })
+abbrev pub started : Who → Setup → List Setup → List Step → List (List ℕ) → KindName → Kind
+started who setup places script files name.Echo = kind.Echo (record { identity = who; is_asleep = setup.asleep })
+started who setup places script files name.Cell = kind.Cell (record { identity = who; value = pos 0 })
+started who setup places script files name.Calc = kind.Calc (record { identity = who })
+started who setup places script files name.Holder = kind.Holder (record { identity = who; held = [] })
+started who setup places script files name.Quitter = kind.Quitter (record { identity = who })
+started who setup places script files name.Source = kind.Source (source.started who files)
+started who setup places script files name.Relay = kind.Relay (record { identity = who })
+started who setup places script files name.Counter = kind.Counter (record { identity = who; count = 0 })
+started who setup places script files name.Lines = kind.Lines (record { identity = who })
+started who setup places script files name.Collector = kind.Collector (record { identity = who; index = finite.empty; tally = record { postings = 0; extents = 0; lines = 0; bytes = 0; chunks = None }; held = [] })
+started who setup places script files name.Watcher = kind.Watcher (record { identity = who; sights = no_sights })
+started who setup places script files name.Spawner = kind.Spawner (record { identity = who; started = 0; passed = 0 })
+started who setup places script files name.Alarm = kind.Alarm (record { identity = who; alarms = no_alarms })
+started who setup places script files name.Conductor = kind.Conductor (conductor_of who places script)

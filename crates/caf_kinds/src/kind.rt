@@ -1,11 +1,12 @@
-ghost use Rattle.std.specs.Prelude.{◌≡◌, IfOk};
-ghost use Rattle.std.specs.Option.{option_copied};
+ghost use Rattle.std.specs.Prelude.{◌≡◌, map, IfOk};
+ghost use Rattle.std.specs.Option.{option_map, option_copied};
 ghost use Rattle.caf_types.specs.TypeTable.{seen};
 ghost use Rattle.caf_types.specs.Table.{shape_at};
 ghost use Rattle.caf_words.specs.Several.{ids_of};
 ghost use Rattle.caf_message.specs.Entries.{HasEntries};
 ghost use Rattle.caf_actor.specs.PlainForms.{plain_input, plain_reaction};
 ghost use Rattle.caf_actor.specs.Rules.{InputFits};
+ghost use Rattle.caf_script.specs.Reply.{plain_reply};
 ghost use Rattle.caf_kinds.specs.Core.{core_entries};
 ghost use Rattle.caf_kinds.specs.Kinds as kinds;
 ghost use Rattle.caf_kinds.specs.Laws as laws;
@@ -13,14 +14,15 @@ ghost use Rattle.caf_kinds.specs.Laws as laws;
 use crate::relay::delegates;
 use crate::spawner::passes_on;
 use crate::{
-    AlarmClock, Calc, Cell, Collector, Counter, Echo, Holder, Lines, Quitter, Relay, Source,
-    Spawner, Watcher,
+    AlarmClock, Calc, Cell, Collector, Conductor, Counter, Echo, Holder, Lines, Quitter, Relay,
+    Source, Spawner, Watcher,
 };
 use caf_actor::{Behavior, Input, Reaction};
 use caf_index::Index;
 use caf_message::Entries;
+use caf_script::StepReply;
 use caf_signature::Interface;
-use caf_types::{Memory, Places, TypeIds, TypeTable};
+use caf_types::{Memory, Places, Seq, TypeIds, TypeTable};
 use std::alloc::Global;
 
 /// An actor's behaviour, of one of the kinds.
@@ -52,6 +54,8 @@ pub enum Kind {
     Spawner(Spawner),
     /// See [`AlarmClock`].
     Alarm(AlarmClock),
+    /// See [`Conductor`].
+    Conductor(Conductor),
 }
 
 impl Entries for Kind {
@@ -78,6 +82,7 @@ impl Behavior for Kind {
             Kind::Watcher(watcher) => watcher.interface(),
             Kind::Spawner(spawner) => spawner.identity.interface(),
             Kind::Alarm(alarm) => alarm.identity.interface(),
+            Kind::Conductor(conductor) => conductor.interface(),
         }
     }
 
@@ -96,6 +101,7 @@ impl Behavior for Kind {
             Kind::Watcher(watcher) => watcher.reserve(),
             Kind::Spawner(spawner) => spawner.identity.reserve(),
             Kind::Alarm(alarm) => alarm.identity.reserve(),
+            Kind::Conductor(conductor) => conductor.reserve(),
         }
     }
 
@@ -113,7 +119,8 @@ impl Behavior for Kind {
             | Kind::Collector(_)
             | Kind::Watcher(_)
             | Kind::Spawner(_)
-            | Kind::Alarm(_) => false,
+            | Kind::Alarm(_)
+            | Kind::Conductor(_) => false,
         }
     }
 
@@ -131,7 +138,8 @@ impl Behavior for Kind {
             | Kind::Lines(_)
             | Kind::Collector(_)
             | Kind::Watcher(_)
-            | Kind::Alarm(_) => false,
+            | Kind::Alarm(_)
+            | Kind::Conductor(_) => false,
         }
     }
 
@@ -190,6 +198,7 @@ impl Kind {
             Kind::Watcher(watcher) => watcher.react(alloc, table, input),
             Kind::Spawner(spawner) => spawner.react(alloc, input),
             Kind::Alarm(alarm) => alarm.react(alloc, table, input),
+            Kind::Conductor(conductor) => conductor.react(alloc, table, input),
         }
     }
 
@@ -208,6 +217,29 @@ impl Kind {
             | Kind::Relay(_)
             | Kind::Counter(_)
             | Kind::Lines(_)
+            | Kind::Watcher(_)
+            | Kind::Spawner(_)
+            | Kind::Alarm(_)
+            | Kind::Conductor(_) => None,
+        }
+    }
+
+    /// What became of each step of a conductor's script. None exactly where it is no conductor.
+    pub fn replies(&self) -> Option<&Seq<StepReply>>
+        ensures { option_map (λ replies. map plain_reply replies) (option_copied result) ≡ kinds.replies_of self.now }
+    {
+        match self {
+            Kind::Conductor(conductor) => Some(conductor.replies()),
+            Kind::Echo(_)
+            | Kind::Cell(_)
+            | Kind::Calc(_)
+            | Kind::Holder(_)
+            | Kind::Quitter(_)
+            | Kind::Source(_)
+            | Kind::Relay(_)
+            | Kind::Counter(_)
+            | Kind::Lines(_)
+            | Kind::Collector(_)
             | Kind::Watcher(_)
             | Kind::Spawner(_)
             | Kind::Alarm(_) => None,

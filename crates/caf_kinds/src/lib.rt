@@ -1,4 +1,4 @@
-//! The kinds of actors, and the types that they speak with: all but the conductor, which is to come.
+//! The kinds of actors, and the types that they speak with.
 //!
 //! Model: a [`Kind`] is the value of one of these kinds, which is that of its fields; an [`Identity`] is
 //! seen as place, peers and places of children. Each kind has a page of its own in `specs`, which says
@@ -21,6 +21,7 @@ mod atom;
 mod calc;
 mod cell;
 mod collector;
+mod conductor;
 mod contents;
 mod counter;
 mod echo;
@@ -30,10 +31,12 @@ mod held;
 mod holder;
 mod identity;
 mod kind;
+mod laws;
 mod lines;
 mod peers;
 mod place;
 mod plain;
+mod planning;
 mod questions;
 mod quitter;
 mod relay;
@@ -55,9 +58,11 @@ pub use atom::{
     Add, Alarm, Atom, Count, Get, Index, Leave, Link, More, Mul, Put, Rest, Ring, Seen, Settle,
     Spawn, Start, Sub, Totals, Unit, Wake, Watch,
 };
+pub use caf_script::StepReply;
 pub use calc::{Calc, CalcKind};
 pub use cell::{Cell, CellKind};
 pub use collector::{Collector, CollectorKind};
+pub use conductor::{Conductor, ConductorKind};
 pub use contents::{Chunk, Extent, Finish, Item, Postings, Summary, Total};
 pub use counter::{Counter, CounterKind};
 pub use echo::{Echo, EchoKind};
@@ -67,6 +72,7 @@ pub use held::HeldTexts;
 pub use holder::{Holder, HolderKind};
 pub use identity::{Identity, Typed};
 pub use kind::Kind;
+pub use laws::conductor_closes;
 pub use lines::{Lines, LinesKind};
 pub use place::{PlaceList, PlaceNumber};
 pub use plain::{Signed, Text, Unsigned};
@@ -74,7 +80,7 @@ pub use questions::{HeldQuestion, HeldQuestions, Question};
 pub use quitter::{Quitter, QuitterKind};
 pub use relay::{Relay, RelayKind};
 pub use row::{One, Three, Two};
-pub use script::{Step, StepReply};
+pub use script::Step;
 pub use setup::{KindName, Setup};
 pub use sights::{Sights, Sought};
 pub use signal::Signal;

@@ -6,9 +6,9 @@ ghost use Rattle.caf_kinds.specs.Peers.{wanted_of};
 
 use crate::asking::{interface, takes};
 use crate::{
-    AlarmKind, CalcKind, CellKind, Chunk, CollectorKind, CounterKind, EchoKind, Element, Extent,
-    Finish, HolderKind, KindName, LinesKind, One, Postings, QuitterKind, RelayKind, SourceKind,
-    SpawnerKind, Typed, Unit, WatcherKind,
+    AlarmKind, CalcKind, CellKind, Chunk, CollectorKind, ConductorKind, CounterKind, EchoKind,
+    Element, Extent, Finish, HolderKind, KindName, LinesKind, One, Postings, QuitterKind,
+    RelayKind, SourceKind, SpawnerKind, Typed, Unit, WatcherKind,
 };
 use caf_signature::Interface;
 use caf_types::{Memory, Seq};
@@ -33,6 +33,7 @@ impl KindName {
             KindName::Watcher => WatcherKind::interface(alloc),
             KindName::Spawner => SpawnerKind::interface(alloc),
             KindName::Alarm => AlarmKind::interface(alloc),
+            KindName::Conductor => ConductorKind::interface(alloc),
         }
     }
 
@@ -54,6 +55,7 @@ impl KindName {
             KindName::Watcher => count <= 255,
             KindName::Spawner => count == 0,
             KindName::Alarm => count == 0,
+            KindName::Conductor => true,
         }
     }
 
@@ -80,7 +82,8 @@ impl KindName {
             | KindName::Collector
             | KindName::Watcher
             | KindName::Spawner
-            | KindName::Alarm => interface(alloc, Seq::new(alloc)),
+            | KindName::Alarm
+            | KindName::Conductor => interface(alloc, Seq::new(alloc)),
         }
     }
 }

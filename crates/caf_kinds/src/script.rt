@@ -1,5 +1,5 @@
 use caf_response::Mode;
-use caf_types::{Priority, Reason, Sec, Seq, TypeIds};
+use caf_types::{Priority, Reason, Seq, TypeIds};
 use caf_words::Value;
 
 /// A step of the conductor's script.
@@ -17,17 +17,4 @@ pub enum Step {
     Within(u32, Priority, Mode, TypeIds, Seq<Value>, u32),
     /// No step is issued until so many ticks have come as there are such steps up to this one.
     Tick,
-}
-
-/// What became of a step.
-#[derive(Debug, Drop)]
-pub enum StepReply {
-    /// It was not issued, or it is no request.
-    Unsent,
-    /// It was issued, and is not yet resolved.
-    Open_,
-    /// It was answered by these values.
-    Value(Seq<Value>),
-    /// It was answered by an error, or its time was over.
-    Error(Sec),
 }

@@ -29,6 +29,8 @@ pub enum KindName {
     Spawner,
     /// Answers after as many ticks as it is asked for.
     Alarm,
+    /// Plays the script. It is the actor at place 0.
+    Conductor,
 }
 
 /// How an actor is set up.

@@ -2,22 +2,24 @@
 ghost use Rattle.std.specs.Prelude.{◌≡◌, ◌<◌, ◌≤◌, None, length, IfOk};
 ghost use Rattle.std.specs.List.{AllByRecursion};
 ghost use Rattle.std.specs.Option.{option_copied};
-ghost use Rattle.caf_kinds.specs.Starting.{CanStart, started, who_of};
+ghost use Rattle.caf_kinds.specs.Planning.{conductor_of};
+ghost use Rattle.caf_kinds.specs.Starting.{CanStart, IsTypedStep, started, who_of};
 ghost use Rattle.caf_kinds.specs.Kinds as kinds;
 
+use crate::planning::{all_places, script_of};
 use crate::{
     AlarmClock, AlarmKind, Alarms, Calc, CalcKind, Cell, CellKind, Collector, CollectorKind,
-    Counter, CounterKind, Echo, EchoKind, HeldTexts, Holder, HolderKind, Identity, Kind, KindName,
-    Lines, LinesKind, Quitter, QuitterKind, Relay, RelayKind, Setup, Sights, Source, SourceKind,
-    Spawner, SpawnerKind, Step, Typed, Watcher, WatcherKind,
+    Conductor, ConductorKind, Counter, CounterKind, Echo, EchoKind, HeldTexts, Holder, HolderKind,
+    Identity, Kind, KindName, Lines, LinesKind, Quitter, QuitterKind, Relay, RelayKind, Setup,
+    Sights, Source, SourceKind, Spawner, SpawnerKind, Step, Typed, Watcher, WatcherKind,
 };
 use caf_types::{Memory, Octets, Places, Seq};
 use std::alloc::Global;
 
 impl Kind {
     /// The behaviour of the actor at that place, as its setup says. The setups of `places` are those of
-    /// the places from 1 on. The script is the conductor's, and the files are a source's; the kinds so
-    /// far keep no script.
+    /// the places from 1 on. The script is the conductor's, whose peers are all of them, and the files are a
+    /// source's.
     pub fn start(
         alloc: Global,
         place: u32,
@@ -27,10 +29,8 @@ impl Kind {
         files: Seq<Octets>,
     ) -> Result<Kind, Memory>
         requires { CanStart place setup.now places.now script.now files }
-        ensures { IfOk result (λ kind. kind ≡ started (who_of place setup.now) setup.now files setup.now.kind) }
+        ensures { IfOk result (λ kind. kind ≡ started (who_of place setup.now) setup.now places.now script.now files setup.now.kind) }
     {
-        let _ = places;
-        let _ = script;
         match setup.kind {
             KindName::Echo => Ok(Kind::Echo(Echo {
                 identity: identity(alloc, EchoKind, place, setup)?,
@@ -82,8 +82,31 @@ impl Kind {
                 identity: identity(alloc, AlarmKind, place, setup)?,
                 alarms: Alarms::new(alloc),
             })),
+            KindName::Conductor => Ok(Kind::Conductor(conductor(
+                alloc, place, setup, places, script,
+            )?)),
         }
     }
+}
+
+/// The conductor of these actors and this script.
+fn conductor(
+    alloc: Global,
+    place: u32,
+    setup: &Setup,
+    places: &Seq<Setup>,
+    script: &Seq<Step>,
+) -> Result<Conductor, Memory>
+    requires reserve { AllByRecursion (λ p. p < 256) setup.now.reserve }
+    requires few { length places.now ≤ 255 }
+    requires steps { length script.now ≤ 1000 }
+    requires typed { AllByRecursion (IsTypedStep places.now) script.now }
+    ensures { IfOk result (λ it. it ≡ conductor_of (who_of place setup.now) places.now script.now) }
+{
+    let peers = all_places(alloc, places.len() as u32)?;
+    let reserve = copied(alloc, &setup.reserve)?;
+    let identity = Identity::new(alloc, ConductorKind, place, peers, reserve)?;
+    Ok(Conductor::new(identity, script_of(alloc, places, script.as_slice())?))
 }
 
 /// Who the actor at that place is.

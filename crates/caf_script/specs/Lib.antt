@@ -1,0 +1,3 @@
+pub mod Step
+pub mod Reply
+pub mod Script
