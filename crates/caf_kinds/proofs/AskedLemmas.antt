@@ -1,24 +1,23 @@
 -- What content of a row's types asks is what the row means.
-use Rattle.std.proofs.Common.{◌≡◌, ℕ, ◌+◌, ◌==◌, Bool, true, false, ◌&&◌, List, [], ◌∷◌, length, drop, map, Option, Some, None, Ok, refl, sym, ap, subst, ◌∙◌}
+use Rattle.std.proofs.Common.{◌≡◌, ℕ, ◌+◌, ◌==◌, Bool, true, false, ◌&&◌, List, [], ◌∷◌, length, drop, map, Option, Some, None, refl, sym, ap, subst, ◌∙◌}
 use Rattle.std.specs.Prelude.{bytes_eq}
 use Rattle.std.proofs.lemmas.Slice.Eq.{bytes_eq-Decides}
 use Rattle.std.specs.Cmp.Lexicographic.{pointwise}
 use Rattle.caf_types.specs.ShapeTree.{ShapeTree, text}
 use Rattle.caf_types.specs.declared.shape.TypeId.{TypeId}
 use Rattle.caf_types.specs.Table.{Table, shape_at}
-use Rattle.caf_words.specs.Datum.{Data, are_in_range}
-use Rattle.caf_words.specs.Reading.{Got}
-use Rattle.caf_words.specs.Several.{ids_of, several, several_fit, SeveralSpell}
+use Rattle.caf_words.specs.Datum.{Data}
+use Rattle.caf_words.specs.Several.{ids_of, SeveralSpell}
 use Rattle.caf_words.specs.Spelling.{spellings}
 use Rattle.caf_words.proofs.RowLemmas.{read_whole}
 use Rattle.caf_words.proofs.SeveralLemmas.{several_kept}
-use Rattle.caf_message.specs.Content.{content_of, ids_in}
+use Rattle.caf_message.specs.Content.{ids_in}
 use Rattle.caf_message.specs.Entries.{HasEntries}
 use Rattle.caf_message.specs.Fits.{AreValues, HaveShapes, Means}
 use Rattle.caf_message.proofs.ContentLemmas.{same_ids, drop-content}
 use Rattle.caf_message.proofs.FitsLemmas.{same_shapes, entry_shapes_stand}
 use Rattle.caf_kinds.specs.Core.{core, core_entries}
-use Rattle.caf_kinds.specs.Asking.{type_id, of_text, AreCoreRow, asked_of, sound, sound_read}
+use Rattle.caf_kinds.specs.Asking.{type_id, of_text, AreCoreRow, asked_of}
 use Rattle.caf_kinds.specs.Lawful.{IsRowContent, IsContentOf}
 use Rattle.caf_kinds.specs.Laws.{core_is_needed}
 

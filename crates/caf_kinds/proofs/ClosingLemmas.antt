@@ -1,11 +1,11 @@
 -- A conductor at place 0 is a closer.
-use Rattle.std.proofs.Common.{◌≡◌, ◌≢◌, ℕ, zero, suc, ◌+◌, ◌-◌, ◌<◌, ◌≤◌, Bool, true, false, List, [], ◌∷◌, ◌++◌, length, map, Option, Some, None, refl, sym, ap, subst, ◌∙◌, arith}
+use Rattle.std.proofs.Common.{◌≡◌, ◌≢◌, ℕ, zero, suc, ◌+◌, ◌-◌, ◌≤◌, Bool, true, false, List, [], ◌∷◌, ◌++◌, map, Option, Some, None, refl, sym, ap, subst, ◌∙◌, arith}
 use Rattle.std.specs.Prelude.{if◌then◌else◌, Contains}
 use Rattle.std.specs.List.{AllByRecursion}
 use Rattle.caf_actor.specs.PlainInput.{PlainInput, Start, Stop, Content, Response, Failed, Down, Tick}
 use Rattle.caf_actor.specs.PlainOutput.{PlainOutput}
 use Rattle.caf_actor.specs.Rules.{fed, output_targets}
-use Rattle.caf_actor.specs.Record.{ComesLate, kills, SendsNothingTo, IsCloser}
+use Rattle.caf_actor.specs.Record.{ComesLate, kills, SendsNothingTo}
 use Rattle.caf_script.specs.Reply as reply
 use Rattle.caf_script.specs.Reply.{Reply}
 use Rattle.caf_script.specs.Script.{Played, goes_on, play, answered, answered_at, resolved, resolved_at, step_of, ticked}
@@ -21,7 +21,7 @@ use Rattle.caf_kinds.specs.ConductorLaws.{keeps, sent_right, all_joined}
 use Rattle.caf_kinds.specs.SendLaws.{all_contained}
 use Rattle.caf_kinds.specs.Planning.{places_from}
 use Rattle.caf_kinds.proofs.PlanningLemmas.{one_of_all}
-use Rattle.caf_kinds.specs.Closing.{IsConducted, ConductorCloses}
+use Rattle.caf_kinds.specs.Closing.{ConductorCloses}
 use Rattle.caf_kinds.specs.declared.kind.Kind.{Kind}
 use Rattle.caf_kinds.specs.declared.kind.Kind.TheVariants as kind
 

@@ -1,12 +1,12 @@
 -- Signatures whose inputs differ: none of them is a repeat.
-use Rattle.std.proofs.Common.{◌≡◌, ℕ, zero, suc, ◌<◌, Bool, true, false, ◌&&◌, List, [], ◌∷◌, length, take, map, Option, Some, None, refl, sym, ap, subst, ◌∙◌, ◌⊎◌, inl, inr, arith}
+use Rattle.std.proofs.Common.{◌≡◌, ℕ, zero, suc, ◌<◌, Bool, true, false, List, [], ◌∷◌, take, Some, refl, ◌⊎◌, inl, inr, arith}
 use Rattle.std.specs.Prelude.{not, slice_get, Contains, Err}
 use Rattle.std.specs.List.{list_any}
 use Rattle.caf_types.specs.declared.shape.TypeId.{TypeId}
 use Rattle.caf_signature.specs.declared.interface.Signature.{Signature}
 use Rattle.std.proofs.lemmas.List.Elements.{Contains-append_cases}
 use Rattle.caf_signature.proofs.InterfaceLemmas.{same_types-Decides}
-use Rattle.caf_signature.specs.Interface.{inputs, same_types, IsFirstRepeat, InterfaceAnswer}
+use Rattle.caf_signature.specs.Interface.{inputs, IsFirstRepeat, InterfaceAnswer}
 use Rattle.caf_signature.specs.declared.interface.InterfaceFault.{InterfaceFault}
 use Rattle.caf_signature.specs.declared.interface.InterfaceFault.TheVariants as faults
 use Rattle.caf_kinds.specs.Asking.{has_input, inputs_differ}

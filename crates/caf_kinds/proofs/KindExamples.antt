@@ -6,7 +6,7 @@ use Rattle.caf_types.specs.declared.notice.Priority.TheVariants as priority
 use Rattle.caf_types.specs.declared.reason.Reason.TheVariants as reason
 use Rattle.caf_types.specs.declared.sec.Sec.TheVariants as sec
 use Rattle.caf_actor.specs.declared.origin.Origin.{Origin}
-use Rattle.caf_actor.specs.PlainInput.{Content, PlainInput, Down, Start}
+use Rattle.caf_actor.specs.PlainInput.{Content, Down}
 use Rattle.caf_actor.specs.PlainOutput as output
 use Rattle.caf_actor.specs.PlainReaction as answer
 use Rattle.caf_kinds.specs.Asking.{asked_of}
@@ -44,7 +44,6 @@ use Rattle.caf_kinds.specs.declared.relay.Relay.{Relay}
 use Rattle.caf_kinds.specs.declared.counter.Counter.{Counter}
 use Rattle.caf_kinds.specs.declared.lines.Lines.{Lines}
 use Rattle.caf_kinds.specs.declared.collector.Collector.{Collector}
-use Rattle.caf_kinds.specs.declared.sights.Sought.{Sought}
 use Rattle.caf_kinds.specs.declared.watcher.Watcher.{Watcher}
 use Rattle.caf_kinds.specs.declared.spawner.Spawner.{Spawner}
 use Rattle.caf_kinds.specs.declared.alarm.AlarmClock.{AlarmClock}

@@ -4,6 +4,7 @@ pub mod ClosingLemmas
 pub mod AskedLemmas
 pub mod DifferLemmas
 pub mod KindExamples
+mod ConductorExamples
 pub mod LineLemmas
 pub mod ShortLineLemmas
 pub mod ChunkPlaceLemmas

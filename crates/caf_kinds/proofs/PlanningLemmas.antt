@@ -1,17 +1,17 @@
 -- Messages that are built of values, and what the steps of a script send.
 use Rattle.std.proofs.Common.{◌≡◌, ℕ, zero, suc, ◌+◌, ◌-◌, ◌<◌, ◌≤◌, Bool, true, false, List, [], ◌∷◌, ◌++◌, length, map, take, get_or, replicate, Option, Some, None, Err, refl, sym, ap, subst, ◌∙◌, add-one, arith}
-use Rattle.std.specs.Prelude.{◌==◌, ◌&&◌, slice_get, is_some, if◌then◌else◌, Contains}
+use Rattle.std.specs.Prelude.{◌==◌, slice_get, is_some, if◌then◌else◌, Contains}
 use Rattle.std.specs.List.{AllByRecursion}
-use Rattle.std.proofs.lemmas.List.{map-append, length-map, take_all, length-take-le}
+use Rattle.std.proofs.lemmas.List.{map-append, take_all, length-take-le}
 use Rattle.std.proofs.Math.Seq.{take-suc, take-length}
 use Rattle.caf_types.specs.ShapeTree.{ShapeTree}
 use Rattle.caf_types.specs.Table.{shape_at}
 use Rattle.caf_types.specs.declared.shape.TypeId.{TypeId}
-use Rattle.caf_words.specs.Datum.{Datum, Data, data_of, fits}
+use Rattle.caf_words.specs.Datum.{Datum, data_of, fits}
 use Rattle.caf_words.specs.Value.{datum}
 use Rattle.caf_words.specs.declared.value.Value.{Value}
 use Rattle.caf_words.specs.Spelling.{spelling, spellings}
-use Rattle.caf_words.specs.Several.{ids_of, several_fit, SeveralSpell}
+use Rattle.caf_words.specs.Several.{ids_of, several_fit}
 use Rattle.caf_words.proofs.SeveralLemmas.{several_kept}
 use Rattle.caf_message.specs.Content.{content_of}
 use Rattle.caf_message.specs.Fits.{HaveShapes, Fits}

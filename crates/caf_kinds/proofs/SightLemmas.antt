@@ -1,5 +1,5 @@
 -- Places as they are kept, and their messages.
-use Rattle.std.proofs.Common.{◌≡◌, ℕ, ◌+◌, ◌≤◌, Bool, true, false, cond, List, [], ◌∷◌, ◌++◌, length, map, refl, sym, ap, ◌∙◌, append_assoc, length-append, arith}
+use Rattle.std.proofs.Common.{◌≡◌, ℕ, ◌≤◌, Bool, true, false, List, [], ◌∷◌, ◌++◌, length, map, refl, ap, ◌∙◌, append_assoc, length-append, arith}
 use Rattle.std.specs.Prelude.{◌==◌, nat_lt, not, filter}
 use Rattle.std.specs.List.{list_any}
 use Rattle.caf_words.specs.Datum.{Data, no_data, more, a_place, a_list, data_of}

@@ -1,16 +1,15 @@
 -- An alarm keeps the laws.
-use Rattle.std.specs.Prelude.{◌≡◌, ℕ, ◌+◌, ◌<◌, ◌≤◌, ◌&&◌, nat_lt, nat_le, bytes_eq, if◌then◌else◌, Bool, true, false, List, [], ◌∷◌, Option, Some, None, refl}
+use Rattle.std.specs.Prelude.{◌≡◌, ℕ, ◌+◌, ◌<◌, nat_lt, nat_le, if◌then◌else◌, Bool, true, List, Option, Some, None, refl}
 use Rattle.std.proofs.Common.{arith}
 use Rattle.std.proofs.lemmas.Bool.{lt-ltb}
 use Rattle.std.proofs.lemmas.Bool.Decides.{nat_tests}
 use Rattle.caf_message.specs.Lists.{pick}
 use Rattle.caf_actor.specs.declared.origin.Origin.{Origin}
 use Rattle.caf_actor.specs.PlainInput.{PlainInput, Start, Stop, Content, Response, Failed, Down, Tick}
-use Rattle.caf_actor.specs.PlainReaction as answer
 use Rattle.caf_actor.specs.Answering.{is_asked}
 use Rattle.caf_words.specs.Datum.{Data, no_data, more, a_unit, an_unsigned}
 use Rattle.caf_kinds.specs.Asking.{type_ids, has, asked}
-use Rattle.caf_kinds.specs.Who.{Fixed, fixed}
+use Rattle.caf_kinds.specs.Who.{fixed}
 use Rattle.caf_kinds.specs.Reacting.{Reacted, answers, quiet, done, failed}
 use Rattle.caf_kinds.specs.Lawful.{IsSound, IsLawful}
 use Rattle.caf_kinds.specs.Keeping.{on_if, second_of_and, unit_sound, unsigned_sound, answers_by, answer_kept, failed_kept, quiet_kept}

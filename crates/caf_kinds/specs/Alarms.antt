@@ -1,5 +1,5 @@
 -- The requests that an alarm holds, each under the number that it gave it.
-use Rattle.std.specs.Prelude.{◌≡◌, ℕ, ◌+◌, ◌≤◌, ◌==◌, Bool, List, [], ◌∷◌, ◌++◌, map}
+use Rattle.std.specs.Prelude.{ℕ, ◌+◌, ◌≤◌, ◌==◌, Bool, List, [], ◌∷◌, ◌++◌, map}
 use Rattle.std.specs.List.{AllByRecursion}
 use Rattle.caf_actor.specs.declared.origin.Origin.{Origin}
 use Rattle.caf_kinds.specs.declared.alarms.Asker.{Asker}

@@ -3,7 +3,7 @@ use Rattle.std.specs.Prelude.{◌≡◌, ℕ, ℤ, ◌+◌, ◌&&◌, Bool, true
 use Rattle.caf_types.specs.ShapeTree.{ShapeTree, unit, unsigned, signed, text}
 use Rattle.caf_types.specs.Table.{shape_at}
 use Rattle.caf_types.specs.declared.shape.TypeId.{TypeId}
-use Rattle.caf_words.specs.Datum.{Data, no_data, more, a_unit, an_unsigned, a_signed, a_text, are_in_range}
+use Rattle.caf_words.specs.Datum.{Data, no_data, more, a_unit, an_unsigned, a_signed, are_in_range}
 use Rattle.caf_words.specs.Reading.{Got}
 use Rattle.caf_words.specs.Several.{several, several_fit}
 use Rattle.caf_message.specs.Content.{content_of, ids_in}

@@ -5,7 +5,6 @@ use Rattle.caf_words.specs.Datum.{Data, no_data, more, a_unit, a_signed, is_i64}
 use Rattle.caf_signature.specs.declared.interface.Signature.{Signature}
 use Rattle.caf_actor.specs.PlainInput.{PlainInput, Content}
 use Rattle.caf_actor.specs.PlainReaction.{PlainAnswer}
-use Rattle.caf_actor.specs.PlainReaction as answer
 use Rattle.caf_kinds.specs.Asking.{Types, atom, of_signed, takes, has, asked}
 use Rattle.caf_kinds.specs.Reacting.{Reacted, quiet, answers, signed as signed_answer, failed}
 use Rattle.caf_kinds.specs.declared.calc.Calc.{Calc}

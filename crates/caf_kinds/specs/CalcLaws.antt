@@ -1,19 +1,16 @@
 -- A calc keeps the laws.
-use Rattle.std.specs.Prelude.{◌≡◌, ℕ, ℤ, ◌&&◌, ◌+◌, ◌≤◌, bytes_eq, if◌then◌else◌, Bool, true, false, List, [], ◌∷◌, ◌++◌, length, map, Option, Some, None, refl}
-use Rattle.std.proofs.Common.{arith, ap, sym, ◌∙◌}
+use Rattle.std.specs.Prelude.{◌≡◌, ℕ, ℤ, bytes_eq, Bool, true, List, [], ◌∷◌, Option, Some, refl}
 use Rattle.caf_actor.specs.declared.origin.Origin.{Origin}
 use Rattle.caf_actor.specs.PlainInput.{PlainInput, Start, Stop, Content, Response, Failed, Down, Tick}
 use Rattle.caf_actor.specs.PlainReaction.{PlainAnswer}
-use Rattle.caf_actor.specs.PlainReaction as answer
 use Rattle.caf_words.specs.Datum.{Data, no_data, more, a_unit, a_signed, is_i64}
-use Rattle.caf_signature.specs.declared.interface.Signature.{Signature}
 use Rattle.caf_actor.specs.Rules.{declared_for}
 use Rattle.caf_message.specs.Content.{ids_in}
-use Rattle.caf_kinds.specs.Asking.{Types, of_signed, type_ids, has, asked}
-use Rattle.caf_kinds.specs.Who.{Fixed, fixed}
-use Rattle.caf_kinds.specs.Reacting.{Reacted, answers, signed, failed}
+use Rattle.caf_kinds.specs.Asking.{type_ids, has, asked}
+use Rattle.caf_kinds.specs.Who.{fixed}
+use Rattle.caf_kinds.specs.Reacting.{Reacted, signed, failed}
 use Rattle.caf_kinds.specs.Lawful.{IsLawful, IsLawfulAnswer}
-use Rattle.caf_kinds.specs.Keeping.{on_if, signed_sound, answers_by, answer_kept, failed_kept, quiet_kept}
+use Rattle.caf_kinds.specs.Keeping.{on_if, signed_sound, answers_by, answer_kept, quiet_kept}
 use Rattle.caf_kinds.specs.Calc.{adding, subtracting, multiplying, interface, sum, difference, product, number, on_two, answer_to, reacted}
 use Rattle.caf_kinds.specs.declared.calc.Calc.{Calc}
 

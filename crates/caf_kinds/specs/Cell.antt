@@ -1,9 +1,8 @@
 -- A cell keeps the number that it was given last, 0 at first, and answers it.
-use Rattle.std.specs.Prelude.{ℕ, ℤ, List, [], ◌∷◌, if◌then◌else◌, Option, Some, None}
+use Rattle.std.specs.Prelude.{ℕ, List, [], ◌∷◌, if◌then◌else◌, Option, Some}
 use Rattle.caf_words.specs.Datum.{Data, no_data, more, a_unit, a_signed}
 use Rattle.caf_signature.specs.declared.interface.Signature.{Signature}
 use Rattle.caf_actor.specs.PlainInput.{PlainInput, Content}
-use Rattle.caf_actor.specs.PlainReaction as answer
 use Rattle.caf_kinds.specs.Asking.{Types, atom, of_signed, of_unit, takes, has, asked}
 use Rattle.caf_kinds.specs.Reacting.{Reacted, quiet, answers, done, signed, failed}
 use Rattle.caf_kinds.specs.declared.cell.Cell.{Cell}

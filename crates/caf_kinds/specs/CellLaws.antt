@@ -1,13 +1,10 @@
 -- A cell keeps the laws.
-use Rattle.std.specs.Prelude.{◌≡◌, ℕ, ◌&&◌, ◌+◌, ◌≤◌, bytes_eq, if◌then◌else◌, Bool, true, false, List, [], ◌∷◌, ◌++◌, length, map, Option, Some, None, refl}
-use Rattle.std.proofs.Common.{arith, ap, sym, ◌∙◌}
+use Rattle.std.specs.Prelude.{◌≡◌, ℕ, Bool, true, List, Option, Some, refl}
 use Rattle.caf_actor.specs.declared.origin.Origin.{Origin}
 use Rattle.caf_actor.specs.PlainInput.{PlainInput, Start, Stop, Content, Response, Failed, Down, Tick}
-use Rattle.caf_actor.specs.PlainReaction.{PlainAnswer}
-use Rattle.caf_actor.specs.PlainReaction as answer
 use Rattle.caf_words.specs.Datum.{Data, no_data, more, a_unit, a_signed, is_i64}
-use Rattle.caf_kinds.specs.Asking.{of_signed, type_ids, type_shapes, has, asked}
-use Rattle.caf_kinds.specs.Who.{Fixed, fixed}
+use Rattle.caf_kinds.specs.Asking.{type_ids, type_shapes, has, asked}
+use Rattle.caf_kinds.specs.Who.{fixed}
 use Rattle.caf_kinds.specs.Reacting.{Reacted, answers, done, signed, failed}
 use Rattle.caf_kinds.specs.Lawful.{IsLawful}
 use Rattle.caf_kinds.specs.Keeping.{on_if, first_of_and, asked_is, unit_sound, signed_sound, answers_by, answer_kept, failed_kept, quiet_kept}

@@ -4,10 +4,9 @@ use Rattle.std.proofs.Common.{ap, sym, subst, ◌∙◌, arith}
 use Rattle.std.proofs.lemmas.List.{length-append}
 use Rattle.std.proofs.lemmas.List.Concat.{flat_map-cons}
 use Rattle.std.specs.List.{AllByRecursion}
-use Rattle.caf_types.specs.declared.sec.Sec.{Sec}
 use Rattle.caf_actor.specs.PlainInput.{PlainInput, Start, Stop, Content, Response, Failed, Down, Tick}
 use Rattle.caf_actor.specs.PlainOutput.{PlainOutput}
-use Rattle.caf_actor.specs.Rules.{output_targets, output_count, outputs_count, is_tick}
+use Rattle.caf_actor.specs.Rules.{output_targets, outputs_count}
 use Rattle.caf_script.specs.Step.{Step, Send, Ask, Sync, sent}
 use Rattle.caf_script.specs.Step as step
 use Rattle.caf_script.specs.Reply as reply
@@ -15,7 +14,7 @@ use Rattle.caf_script.specs.Reply.{Reply}
 use Rattle.caf_script.specs.Script.{Played, HasPlayed, IsLeft, goes_on, answered, answered_at, resolved, resolved_at, step_of, ticked}
 use Rattle.caf_script.specs.declared.script.Script.{Script}
 use Rattle.caf_script.proofs.ScriptLemmas.{plays_in_order}
-use Rattle.caf_kinds.specs.Who.{Who, IsWho, Fixed, fixed}
+use Rattle.caf_kinds.specs.Who.{Who, fixed}
 use Rattle.caf_kinds.specs.Reacting.{Reacted}
 use Rattle.caf_kinds.specs.Lawful.{IsTarget, IsNotAsked, IsLawfulOutput, IsLawful, is_stop}
 use Rattle.caf_kinds.specs.Keeping.{failed_kept, quiet_kept}

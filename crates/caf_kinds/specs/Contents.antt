@@ -1,6 +1,6 @@
 -- What the contents of the block `core` mean.
-use Rattle.std.specs.Prelude.{ℕ, ℤ, List, map}
-use Rattle.caf_words.specs.Datum.{Datum, Data, no_data, more, a_unit, an_unsigned, a_text, some_bytes, a_list, an_object, data_of}
+use Rattle.std.specs.Prelude.{map}
+use Rattle.caf_words.specs.Datum.{Datum, no_data, more, an_unsigned, a_text, some_bytes, a_list, an_object, data_of}
 use Rattle.caf_kinds.specs.declared.contents.Chunk.{Chunk}
 use Rattle.caf_kinds.specs.declared.contents.Item.{Item}
 use Rattle.caf_kinds.specs.declared.contents.Postings.{Postings}

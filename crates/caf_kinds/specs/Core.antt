@@ -1,5 +1,5 @@
 -- The types that the kinds of actors speak with: the block `core`, behind the types that every table has.
-use Rattle.std.specs.Prelude.{ℕ, List, [], ◌∷◌, ◌++◌, codes}
+use Rattle.std.specs.Prelude.{List, [], ◌∷◌, ◌++◌, codes}
 use Rattle.std.specs.Ordering.{nat_cmp}
 use Rattle.std.specs.FinMap as finite
 use Rattle.caf_types.specs.ShapeTree.{ShapeTree, unit, unsigned, text, bytes, list, object, no_parts, part}

@@ -1,11 +1,11 @@
 -- An echo keeps the laws.
-use Rattle.std.specs.Prelude.{◌≡◌, ℕ, ◌&&◌, bytes_eq, Bool, true, false, List, [], ◌∷◌, refl}
+use Rattle.std.specs.Prelude.{◌≡◌, ℕ, bytes_eq, Bool, true, false, List, refl}
 use Rattle.caf_actor.specs.declared.origin.Origin.{Origin}
 use Rattle.caf_actor.specs.PlainInput.{PlainInput, Start, Stop, Content, Response, Failed, Down, Tick}
 use Rattle.caf_actor.specs.PlainReaction as answer
 use Rattle.caf_actor.specs.Rules.{is_input}
 use Rattle.caf_kinds.specs.Asking.{of_text, type_ids, has}
-use Rattle.caf_kinds.specs.Who.{Fixed, fixed}
+use Rattle.caf_kinds.specs.Who.{fixed}
 use Rattle.caf_kinds.specs.Reacting.{Reacted, answers, done, failed}
 use Rattle.caf_kinds.specs.Lawful.{IsLawful}
 use Rattle.caf_kinds.specs.Keeping.{on_if, second_of_and, unit_sound, answers_by, answers_itself, answer_kept, failed_kept, quiet_kept}

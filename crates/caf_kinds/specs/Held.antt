@@ -1,5 +1,5 @@
 -- Held requests with their texts.
-use Rattle.std.specs.Prelude.{ℕ, List, map}
+use Rattle.std.specs.Prelude.{ℕ, List}
 use Rattle.std.specs.List.{AllByRecursion}
 use Rattle.caf_actor.specs.declared.origin.Origin.{Origin}
 use Rattle.caf_actor.specs.PlainOutput.{PlainOutput}

@@ -9,7 +9,7 @@ use Rattle.caf_actor.specs.PlainReaction.{PlainReaction}
 use Rattle.caf_actor.specs.PlainReaction as answer
 use Rattle.caf_kinds.specs.Asking.{Types, atom, of_text, of_unsigned, takes, has, asked, content}
 use Rattle.caf_kinds.specs.Reacting.{Reacted, quiet, answers, unsigned, failed}
-use Rattle.caf_kinds.specs.Held.{Held, held, delivered}
+use Rattle.caf_kinds.specs.Held.{held, delivered}
 use Rattle.caf_kinds.specs.declared.holder.Holder.{Holder}
 
 abbrev pub settling : Types

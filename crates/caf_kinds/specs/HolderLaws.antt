@@ -1,6 +1,6 @@
 -- A holder keeps the laws.
-use Rattle.std.specs.Prelude.{◌≡◌, ℕ, ◌&&◌, ◌+◌, ◌≤◌, bytes_eq, if◌then◌else◌, Bool, true, false, List, [], ◌∷◌, ◌++◌, length, map, Option, Some, None, refl}
-use Rattle.std.proofs.Common.{arith, ap, sym, ◌∙◌}
+use Rattle.std.specs.Prelude.{◌≡◌, ℕ, if◌then◌else◌, Bool, true, List, [], ◌∷◌, ◌++◌, length, map, Option, Some, None, refl}
+use Rattle.std.proofs.Common.{arith}
 use Rattle.caf_actor.specs.declared.origin.Origin.{Origin}
 use Rattle.caf_actor.specs.PlainInput.{PlainInput, Start, Stop, Content, Response, Failed, Down, Tick}
 use Rattle.caf_actor.specs.PlainReaction.{PlainAnswer}
@@ -8,11 +8,10 @@ use Rattle.caf_actor.specs.PlainReaction as answer
 use Rattle.std.specs.List.{AllByRecursion}
 use Rattle.caf_words.specs.Datum.{Data}
 use Rattle.caf_actor.specs.Answering.{is_asked}
-use Rattle.caf_actor.specs.PlainOutput.{PlainOutput}
 use Rattle.caf_actor.specs.Rules.{outputs_count}
 use Rattle.caf_kinds.specs.Asking.{of_text, type_ids, type_shapes, has, asked, content}
-use Rattle.caf_kinds.specs.Who.{Who, Fixed, fixed}
-use Rattle.caf_kinds.specs.Reacting.{Reacted, answers, quiet, failed, unsigned}
+use Rattle.caf_kinds.specs.Who.{Who, fixed}
+use Rattle.caf_kinds.specs.Reacting.{Reacted, answers, quiet, failed}
 use Rattle.caf_kinds.specs.Lawful.{IsContentOf, IsLawfulOutput, IsLawful}
 use Rattle.caf_kinds.specs.Keeping.{on_if, asked_is, unsigned_sound, answers_by, answer_kept, failed_kept, quiet_kept}
 use Rattle.caf_kinds.specs.Held.{Held, held, delivered, AreTexts}

@@ -1,24 +1,22 @@
 -- How one shows that a reaction keeps the laws.
-use Rattle.std.specs.Prelude.{◌≡◌, ℕ, ℤ, ◌≤◌, ◌<◌, ◌&&◌, nat_lt, bytes_eq, if◌then◌else◌, Bool, true, false, List, [], ◌∷◌, ◌++◌, length, min, map, cond, Option, Some, None, Ok, Err, refl}
-use Rattle.std.proofs.Common.{ap, sym, ◌∙◌, subst, inl, inr, arith}
+use Rattle.std.specs.Prelude.{◌≡◌, ℕ, ℤ, ◌&&◌, nat_lt, bytes_eq, if◌then◌else◌, Bool, true, false, List, min, Option, Some, None, Ok, Err, refl}
+use Rattle.std.proofs.Common.{subst, inl, inr, arith}
 use Rattle.std.proofs.lemmas.Bool.{lt-ltb}
 use Rattle.std.proofs.lemmas.Slice.Eq.{bytes_eq-Decides}
-use Rattle.std.specs.List.{AllByRecursion}
 use Rattle.caf_types.specs.ShapeTree.{ShapeTree}
 use Rattle.caf_words.specs.Datum.{Data, no_data, more, a_unit, an_unsigned, a_signed, is_i64, are_in_range}
 use Rattle.caf_words.specs.Reading.{Got}
-use Rattle.caf_words.specs.Several.{several, several_fit}
+use Rattle.caf_words.specs.Several.{several_fit}
 use Rattle.caf_message.specs.Content.{ids_in}
 use Rattle.caf_signature.specs.declared.interface.Signature.{Signature}
 use Rattle.caf_actor.specs.declared.origin.Origin.{Origin}
 use Rattle.caf_actor.specs.PlainInput.{PlainInput, Content}
-use Rattle.caf_actor.specs.PlainReaction.{PlainAnswer, PlainReaction}
-use Rattle.caf_actor.specs.PlainReaction as answer
+use Rattle.caf_actor.specs.PlainReaction.{PlainAnswer}
 use Rattle.caf_actor.specs.Rules.{declared_for}
 use Rattle.caf_kinds.specs.Asking.{of_unit, of_unsigned, of_signed, asked_of, sound, sound_read, unit_content, unsigned_content, signed_content}
 use Rattle.caf_kinds.specs.Who.{Fixed}
 use Rattle.caf_kinds.specs.Reacting.{quiet, answers, failed}
-use Rattle.caf_kinds.specs.Lawful.{IsSound, IsContentOf, IsNotAsked, IsLawfulAnswer, AnswersContent, IsLawful}
+use Rattle.caf_kinds.specs.Lawful.{IsSound, IsNotAsked, IsLawfulAnswer, AnswersContent, IsLawful}
 
 -- ---- branches
 

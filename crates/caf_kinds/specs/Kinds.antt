@@ -1,9 +1,8 @@
 -- What each kind of actor is: one line a kind in each definition.
-use Rattle.std.specs.Prelude.{◌≡◌, ℕ, ◌==◌, ◌&&◌, nat_le, Bool, true, false, List, [], length, Option, Some, None}
+use Rattle.std.specs.Prelude.{◌≡◌, ℕ, ◌==◌, ◌&&◌, nat_le, Bool, true, false, List, Option, Some, None}
 use Rattle.caf_signature.specs.declared.interface.Signature.{Signature}
 use Rattle.caf_words.specs.Datum.{is_i64}
 use Rattle.caf_actor.specs.PlainInput.{PlainInput}
-use Rattle.caf_actor.specs.PlainReaction.{PlainReaction}
 use Rattle.caf_actor.specs.Rules.{Rules}
 use Rattle.caf_kinds.specs.Who.{Who, IsWho, Fixed, fixed}
 use Rattle.caf_kinds.specs.Reacting.{Reacted}

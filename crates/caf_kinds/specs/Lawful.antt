@@ -1,5 +1,5 @@
 -- What keeps the laws: one statement for all of them, about one reaction.
-use Rattle.std.specs.Prelude.{◌≡◌, ℕ, ◌≤◌, ◌⊎◌, Bool, true, false, List, ◌∷◌, ◌++◌, Option, Some, Contains}
+use Rattle.std.specs.Prelude.{◌≡◌, ℕ, ◌≤◌, ◌⊎◌, Bool, true, false, List, ◌∷◌, ◌++◌, Some, Contains}
 use Rattle.std.specs.List.{AllByRecursion}
 use Rattle.caf_types.specs.ShapeTree.{ShapeTree}
 use Rattle.caf_words.specs.Datum.{Data, are_in_range}

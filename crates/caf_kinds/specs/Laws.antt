@@ -1,5 +1,5 @@
 -- The laws of behaviours, for the kinds. That a kind keeps them is one line here.
-use Rattle.std.specs.Prelude.{◌≡◌, ◌≢◌, ℕ, ◌+◌, ◌<◌, ◌≤◌, ◌==◌, ◌⊎◌, nat_lt, if◌then◌else◌, Bool, true, false, List, [], ◌∷◌, ◌++◌, map, cond, Option, Some, None, refl}
+use Rattle.std.specs.Prelude.{◌≡◌, ℕ, ◌==◌, ◌⊎◌, Bool, true, false, List, [], ◌∷◌, cond, Option, Some, None, refl}
 use Rattle.std.proofs.Common.{ap, sym, ◌∙◌, subst, inl, inr}
 use Rattle.std.proofs.lemmas.Bool.{lt-ltb}
 use Rattle.std.proofs.lemmas.Cmp.{eq_by_cmp_equiv}
@@ -9,25 +9,22 @@ use Rattle.std.specs.Option.{option_map}
 use Rattle.std.specs.Ordering.{nat_cmp, eq_by_cmp}
 use Rattle.std.specs.FinMap as finite
 use Rattle.caf_types.specs.ShapeTree.{ShapeTree}
-use Rattle.caf_types.specs.Table.{Named, Table, type_at, shape_at}
-use Rattle.caf_words.specs.Spelling.{spellings}
+use Rattle.caf_types.specs.Table.{Named, type_at, shape_at}
 use Rattle.caf_words.proofs.SeveralLemmas.{several_spelled}
 use Rattle.caf_message.specs.Content.{ids_in}
-use Rattle.caf_message.specs.Entries.{HasEntries, entry_shape}
+use Rattle.caf_message.specs.Entries.{entry_shape}
 use Rattle.caf_message.specs.Fits.{Fits}
 use Rattle.caf_message.proofs.FitsLemmas.{content_fits, Fits-more, entry_shapes_stand}
-use Rattle.caf_actor.specs.declared.origin.Origin.{Origin}
 use Rattle.caf_actor.specs.Answering.{is_asked}
 use Rattle.caf_actor.specs.PlainInput.{PlainInput, Start, Stop, Content, Response, Failed, Down, Tick}
 use Rattle.caf_actor.specs.PlainOutput.{PlainOutput, content_sent}
 use Rattle.caf_actor.specs.PlainReaction.{PlainAnswer, PlainReaction}
 use Rattle.caf_actor.specs.PlainReaction as answer
-use Rattle.caf_actor.specs.Rules as rules
-use Rattle.caf_actor.specs.Rules.{WhereGiven, InputFits, OutputFits, AnswerFits, ReactionFits, MayBeGiven, HasTargets, output_targets, answer_targets, is_input, is_tick, IsExit, IsNoTick, StaysValid, StaysSameActor, SkipsInputs, FitsItsTable, FitsItsEntries, AnswersRequests, AnswersAsDeclared, DelegatesAsTold, SendsToPeers, SendsFew, TicksAtTicks, StopsWithExits}
+use Rattle.caf_actor.specs.Rules.{WhereGiven, InputFits, OutputFits, AnswerFits, ReactionFits, MayBeGiven, output_targets, answer_targets, IsExit, IsNoTick, StaysValid, StaysSameActor, SkipsInputs, FitsItsTable, FitsItsEntries, AnswersRequests, AnswersAsDeclared, DelegatesAsTold, SendsToPeers, SendsFew, TicksAtTicks, StopsWithExits}
 use Rattle.caf_kinds.specs.Core.{core, core_entries}
 use Rattle.caf_kinds.specs.Asking.{type_ids, type_shapes}
 use Rattle.caf_kinds.specs.Who.{Fixed}
-use Rattle.caf_kinds.specs.Lawful.{IsSound, IsGiven, IsTarget, AnswersContent, IsLawfulAnswer, IsLawfulOutput, IsLawful, is_stop}
+use Rattle.caf_kinds.specs.Lawful.{IsSound, IsGiven, IsTarget, AnswersContent, IsLawfulAnswer, IsLawfulOutput, IsLawful}
 use Rattle.caf_kinds.specs.EchoLaws as echo
 use Rattle.caf_kinds.specs.CellLaws as cell
 use Rattle.caf_kinds.specs.CalcLaws as calc
@@ -44,7 +41,7 @@ use Rattle.caf_kinds.specs.AlarmLaws as alarm
 use Rattle.caf_kinds.specs.ConductorLaws as conductor
 use Rattle.caf_kinds.specs.declared.kind.Kind.{Kind}
 use Rattle.caf_kinds.specs.declared.kind.Kind.TheVariants as kind
-use Rattle.caf_kinds.specs.Kinds.{interface, fixed_of, IsValid, skips, delegates, reacted, kind_rules}
+use Rattle.caf_kinds.specs.Kinds.{interface, fixed_of, IsValid, delegates, reacted, kind_rules}
 
 -- ---- one line a kind
 

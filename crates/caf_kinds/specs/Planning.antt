@@ -1,5 +1,5 @@
 -- What a conductor's script is, as its steps are given.
-use Rattle.std.specs.Prelude.{◌≡◌, ℕ, zero, suc, ◌+◌, Bool, false, List, [], ◌∷◌, length, map, take, replicate, Option, Some, None}
+use Rattle.std.specs.Prelude.{◌≡◌, ℕ, zero, suc, ◌+◌, false, List, [], ◌∷◌, length, map, take, replicate, Option, Some, None}
 use Rattle.caf_types.specs.declared.shape.TypeId.{TypeId}
 use Rattle.caf_words.specs.Datum.{data_of}
 use Rattle.caf_types.specs.Table.{shape_at}

@@ -1,6 +1,6 @@
 -- A quitter keeps the laws.
-use Rattle.std.specs.Prelude.{◌≡◌, ℕ, ◌&&◌, ◌+◌, ◌≤◌, bytes_eq, if◌then◌else◌, Bool, true, false, List, [], ◌∷◌, ◌++◌, length, map, Option, Some, None, refl}
-use Rattle.std.proofs.Common.{arith, ap, sym, ◌∙◌}
+use Rattle.std.specs.Prelude.{◌≡◌, ℕ, Bool, true, List, Option, Some, None, refl}
+use Rattle.std.proofs.Common.{arith}
 use Rattle.caf_actor.specs.declared.origin.Origin.{Origin}
 use Rattle.caf_actor.specs.PlainInput.{PlainInput, Start, Stop, Content, Response, Failed, Down, Tick}
 use Rattle.caf_actor.specs.PlainReaction.{PlainAnswer}
@@ -10,8 +10,8 @@ use Rattle.caf_types.specs.declared.reason.Reason.{Reason}
 use Rattle.caf_words.specs.Datum.{Data, no_data, more, a_unit, a_text}
 use Rattle.caf_actor.specs.PlainReaction.{PlainReaction}
 use Rattle.caf_kinds.specs.Asking.{of_text, type_ids, has, asked}
-use Rattle.caf_kinds.specs.Who.{Fixed, fixed}
-use Rattle.caf_kinds.specs.Reacting.{Reacted, answers, done, failed}
+use Rattle.caf_kinds.specs.Who.{fixed}
+use Rattle.caf_kinds.specs.Reacting.{Reacted, answers, failed}
 use Rattle.caf_kinds.specs.Lawful.{IsLawful}
 use Rattle.caf_kinds.specs.Keeping.{on_if, unit_sound, answers_by, answers_itself, answer_kept, failed_kept, quiet_kept}
 use Rattle.caf_kinds.specs.Quitter.{leaving, interface, quits, leaves, reaction_to, reacted}

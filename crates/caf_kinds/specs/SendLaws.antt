@@ -1,7 +1,7 @@
 -- Outputs that are lawful wherever they stand: to peers, and to held requests.
-use Rattle.std.specs.Prelude.{◌≡◌, ℕ, zero, suc, ◌+◌, List, [], ◌∷◌, ◌++◌, length, map, slice_get, Contains, Option, Some, refl}
+use Rattle.std.specs.Prelude.{◌≡◌, ℕ, zero, suc, List, [], ◌∷◌, ◌++◌, length, map, slice_get, Contains, Some, refl}
 use Rattle.std.specs.List.{AllByRecursion}
-use Rattle.std.proofs.Common.{subst, sym, append_assoc, arith}
+use Rattle.std.proofs.Common.{subst, append_assoc, arith}
 use Rattle.std.proofs.lemmas.List.Elements.{Contains-append_left, Contains-append_right}
 use Rattle.caf_actor.specs.PlainInput.{PlainInput}
 use Rattle.caf_actor.specs.PlainOutput.{PlainOutput}

@@ -1,14 +1,13 @@
 -- What holds of sights stays so, and the places in them can be told.
-use Rattle.std.specs.Prelude.{◌≡◌, ℕ, ◌+◌, ◌<◌, ◌≤◌, nat_lt, nat_le, ◌==◌, ◌&&◌, not, Bool, true, false, cond, List, [], ◌∷◌, ◌++◌, length, map, filter, if◌then◌else◌, refl}
-use Rattle.std.specs.List.{AllByRecursion, list_any}
-use Rattle.std.proofs.Common.{ap, sym, ◌∙◌, subst, arith}
+use Rattle.std.specs.Prelude.{◌≡◌, ℕ, ◌+◌, ◌<◌, ◌≤◌, nat_lt, ◌==◌, not, Bool, true, false, List, [], ◌∷◌, ◌++◌, length, map, filter, refl}
+use Rattle.std.specs.List.{AllByRecursion}
+use Rattle.std.proofs.Common.{ap, sym, subst, arith}
 use Rattle.std.proofs.lemmas.Bool.{lt-ltb}
 use borrow.Author.Tests.{ltb-true}
 use Rattle.std.proofs.lemmas.Bool.Decides.{nat_tests}
-use Rattle.caf_words.specs.Datum.{Data, no_data, more, a_place, a_list, data_of, count, is_place, all_fit, are_in_range}
+use Rattle.caf_words.specs.Datum.{no_data, more, a_place, a_list, data_of, count, is_place, all_fit, are_in_range}
 use Rattle.caf_words.specs.Fitting.{both_hold}
 use Rattle.caf_observe.specs.Places.{has_place, with_place}
-use Rattle.caf_actor.specs.PlainOutput.{PlainOutput}
 use Rattle.caf_kinds.specs.Lawful.{IsSound}
 use Rattle.caf_kinds.specs.Sights.{of_places, places_content, Sights, is_reached, with_down, notified, AreRising, AreSights}
 use Rattle.caf_kinds.specs.declared.sights.Sought.{Sought}

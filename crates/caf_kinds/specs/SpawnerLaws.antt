@@ -1,6 +1,5 @@
 -- A spawner keeps the laws.
-use Rattle.std.specs.Prelude.{◌≡◌, ℕ, ◌+◌, ◌%◌, ◌<◌, ◌≤◌, ◌==◌, nat_lt, bytes_eq, slice_get, if◌then◌else◌, Bool, true, false, List, [], ◌∷◌, length, Contains, Option, Some, None, refl}
-use Rattle.std.specs.List.{AllByRecursion}
+use Rattle.std.specs.Prelude.{◌≡◌, ℕ, ◌%◌, ◌<◌, ◌==◌, slice_get, Bool, true, false, List, Contains, Option, Some, None, refl}
 use Rattle.std.proofs.Common.{arith}
 use Rattle.std.proofs.lemmas.Bool.{lt-ltb}
 use Rattle.caf_actor.specs.declared.origin.Origin.{Origin}
@@ -10,7 +9,7 @@ use Rattle.caf_words.specs.Datum.{no_data, more, a_place}
 use Rattle.caf_words.specs.Fitting.{both_hold}
 use Rattle.caf_kinds.specs.Asking.{type_ids, has}
 use Rattle.caf_kinds.specs.Calc.{adding}
-use Rattle.caf_kinds.specs.Who.{Who, IsWho, Fixed, fixed}
+use Rattle.caf_kinds.specs.Who.{IsWho, fixed}
 use Rattle.caf_kinds.specs.Reacting.{Reacted, answers, failed}
 use Rattle.caf_kinds.specs.Lawful.{IsSound, IsLawful}
 use Rattle.caf_kinds.specs.Keeping.{on_if, answers_by, answer_kept, failed_kept, quiet_kept}

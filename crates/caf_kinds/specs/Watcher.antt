@@ -1,5 +1,5 @@
 -- A watcher watches and links its peers, and tells which places have quit.
-use Rattle.std.specs.Prelude.{ℕ, nat_le, List, [], ◌∷◌, ◌++◌, length, map, if◌then◌else◌, Option, Some, None}
+use Rattle.std.specs.Prelude.{ℕ, nat_le, List, [], ◌∷◌, ◌++◌, length, map, if◌then◌else◌, Option, Some}
 use Rattle.caf_words.specs.Datum.{Data, no_data, more, a_unit, an_unsigned}
 use Rattle.caf_signature.specs.declared.interface.Signature.{Signature}
 use Rattle.caf_actor.specs.Answering.{is_asked}

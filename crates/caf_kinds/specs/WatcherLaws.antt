@@ -1,7 +1,7 @@
 -- A watcher keeps the laws.
-use Rattle.std.specs.Prelude.{◌≡◌, ℕ, ◌+◌, ◌≤◌, nat_le, bytes_eq, if◌then◌else◌, Bool, true, false, List, [], ◌∷◌, ◌++◌, length, map, filter, Option, Some, None, refl}
+use Rattle.std.specs.Prelude.{◌≡◌, ℕ, nat_le, Bool, true, List, [], ◌∷◌, ◌++◌, length, map, filter, Option, Some, refl}
 use Rattle.std.specs.List.{AllByRecursion}
-use Rattle.std.proofs.Common.{arith, ap, sym, ◌∙◌}
+use Rattle.std.proofs.Common.{arith}
 use Rattle.caf_types.specs.declared.reason.Reason.{Reason}
 use Rattle.caf_actor.specs.declared.origin.Origin.{Origin}
 use Rattle.caf_actor.specs.PlainInput.{PlainInput, Start, Stop, Content, Response, Failed, Down, Tick}
@@ -11,12 +11,12 @@ use Rattle.caf_actor.specs.PlainReaction as answer
 use Rattle.caf_actor.specs.Answering.{is_asked}
 use Rattle.caf_words.specs.Datum.{Data, no_data, more, a_unit, an_unsigned}
 use Rattle.caf_kinds.specs.Asking.{type_ids, has, asked}
-use Rattle.caf_kinds.specs.Who.{Who, Fixed, fixed}
-use Rattle.caf_kinds.specs.Reacting.{Reacted, answers, quiet, done, failed}
+use Rattle.caf_kinds.specs.Who.{Who, fixed}
+use Rattle.caf_kinds.specs.Reacting.{Reacted, answers, quiet, failed}
 use Rattle.caf_kinds.specs.Lawful.{IsLawful, IsLawfulOutput}
 use Rattle.caf_kinds.specs.Keeping.{on_if, unit_sound, answers_by, answer_kept, failed_kept, quiet_kept}
 use Rattle.caf_kinds.specs.SendLaws.{peer_is_target, to_peers, count_each, count_none}
-use Rattle.caf_kinds.specs.Sights.{Sights, AreRising, AreSights, places_content, sought, told, is_reached, with_down, notified}
+use Rattle.caf_kinds.specs.Sights.{AreRising, places_content, sought, told, is_reached, with_down}
 use Rattle.caf_kinds.specs.SightLaws.{unreached_more, sights_downed, places_sound}
 use Rattle.caf_kinds.specs.Watcher.{watching, linking, seeing, interface, IsWatching, watches, links, seeks, sees, given, downed, reacted}
 use Rattle.caf_kinds.specs.declared.sights.Sought.{Sought}

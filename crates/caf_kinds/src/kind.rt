@@ -2,7 +2,6 @@ ghost use Rattle.std.specs.Prelude.{◌≡◌, map, IfOk};
 ghost use Rattle.std.specs.Option.{option_map, option_copied};
 ghost use Rattle.caf_types.specs.TypeTable.{seen};
 ghost use Rattle.caf_types.specs.Table.{shape_at};
-ghost use Rattle.caf_words.specs.Several.{ids_of};
 ghost use Rattle.caf_message.specs.Entries.{HasEntries};
 ghost use Rattle.caf_actor.specs.PlainForms.{plain_input, plain_reaction};
 ghost use Rattle.caf_actor.specs.Rules.{InputFits};

@@ -5,5 +5,4 @@ ghost use Rattle.caf_kinds.specs.Closing.{ConductorCloses};
 /// place an exit with `kill`, in order of place, and after it nothing more.
 pub fn conductor_closes()
     ensures { ConductorCloses }
-{
-}
+{}

@@ -1,10 +1,8 @@
 //! How an actor of each kind begins.
-ghost use Rattle.std.specs.Prelude.{◌≡◌, ◌<◌, ◌≤◌, None, length, IfOk};
+ghost use Rattle.std.specs.Prelude.{◌≡◌, ◌<◌, ◌≤◌, length, IfOk};
 ghost use Rattle.std.specs.List.{AllByRecursion};
-ghost use Rattle.std.specs.Option.{option_copied};
 ghost use Rattle.caf_kinds.specs.Planning.{conductor_of};
 ghost use Rattle.caf_kinds.specs.Starting.{CanStart, IsTypedStep, started, who_of};
-ghost use Rattle.caf_kinds.specs.Kinds as kinds;
 
 use crate::planning::{all_places, script_of};
 use crate::{

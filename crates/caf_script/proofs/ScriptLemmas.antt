@@ -1,12 +1,12 @@
 -- Which steps are played, and where a script stops.
-use Rattle.std.proofs.Common.{◌≡◌, ℕ, ◌+◌, Bool, true, false, List, [], ◌∷◌, ◌++◌, length, flat_map, Option, Some, None, refl, sym, ap, subst, ◌∙◌, append_assoc, arith}
+use Rattle.std.proofs.Common.{◌≡◌, Bool, true, false, List, [], ◌∷◌, ◌++◌, length, flat_map, refl, sym, ap, ◌∙◌, append_assoc, arith}
 use Rattle.std.specs.Prelude.{slice_get, if◌then◌else◌}
 use Rattle.std.specs.Option.{option_map}
 use Rattle.std.proofs.lemmas.List.{append-nil}
 use Rattle.std.proofs.lemmas.List.Concat.{flat_map-cons}
 use Rattle.caf_actor.specs.PlainOutput.{PlainOutput}
 use Rattle.caf_script.specs.Step.{Step, sent, waits_for}
-use Rattle.caf_script.specs.Script.{Played, is_met, is_next_met, can_play, behind, play, goes_on, HasPlayed, IsLeft, PlaysInOrder, GoesAsFarAsItCan}
+use Rattle.caf_script.specs.Script.{Played, is_met, is_next_met, can_play, behind, play, HasPlayed, IsLeft, PlaysInOrder, GoesAsFarAsItCan}
 use Rattle.caf_script.specs.declared.script.Script.{Script}
 
 -- these steps were played behind what was sent before

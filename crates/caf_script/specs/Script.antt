@@ -1,14 +1,12 @@
 -- A script: which steps it plays, and what it sends then.
-use Rattle.std.specs.Prelude.{◌≡◌, ℕ, ◌+◌, ◌-◌, ◌==◌, nat_lt, Bool, true, false, not, if◌then◌else◌, List, [], ◌∷◌, ◌++◌, length, flat_map, slice_get, slice_set, Option, Some, None}
+use Rattle.std.specs.Prelude.{◌≡◌, ℕ, ◌-◌, ◌==◌, nat_lt, Bool, true, false, not, if◌then◌else◌, List, [], ◌∷◌, ◌++◌, length, flat_map, slice_get, slice_set, Option, Some, None}
 use Rattle.std.specs.List.{list_any}
 use Rattle.std.specs.Option.{option_map}
-use Rattle.caf_types.specs.declared.sec.Sec.{Sec}
-use Rattle.caf_types.specs.declared.sec.Sec.TheVariants as sec
 use Rattle.caf_types.specs.declared.shape.TypeId.{TypeId}
 use Rattle.caf_actor.specs.Numbers.{one_more}
 use Rattle.caf_actor.specs.PlainOutput.{PlainOutput}
 use Rattle.caf_script.specs.Step.{Step, Ask, Tick, sent, expects, waits_for}
-use Rattle.caf_script.specs.Reply.{Reply, Unsent, Open, Failed, is_open, spelled_in, reply_of}
+use Rattle.caf_script.specs.Reply.{Reply, Unsent, Open, is_open, spelled_in, reply_of}
 use Rattle.caf_script.specs.declared.step.Wait.{Wait}
 use Rattle.caf_script.specs.declared.step.Wait.TheVariants as wait
 use Rattle.caf_script.specs.declared.script.Script.{Script}

@@ -1,5 +1,5 @@
 -- The steps of a script: what each sends, and what it waits for.
-use Rattle.std.specs.Prelude.{ℕ, List, [], ◌∷◌}
+use Rattle.std.specs.Prelude.{List, [], ◌∷◌}
 use Rattle.caf_types.specs.declared.shape.TypeId.{TypeId}
 use Rattle.caf_actor.specs.PlainForms.{plain_output}
 use Rattle.caf_actor.specs.PlainOutput.{PlainOutput}

@@ -1,6 +1,5 @@
 //! What content means as the answer to a request.
 ghost use Rattle.std.specs.Prelude.{◌≡◌, ◌+◌, ◌<◌, length, drop, IfOk};
-ghost use Rattle.std.specs.Option.{option_map};
 ghost use Rattle.caf_types.specs.TypeTable.{seen};
 ghost use Rattle.caf_words.specs.Several.{ids_of};
 ghost use Rattle.caf_message.specs.Content.{ids_in};

@@ -1,4 +1,4 @@
-ghost use Rattle.std.specs.Prelude.{◌≡◌, [], ◌∷◌, ◌++◌, length, map, slice_set, OnOk};
+ghost use Rattle.std.specs.Prelude.{◌≡◌, [], ◌∷◌, ◌++◌, map, slice_set, OnOk};
 ghost use Rattle.std.specs.List.{list_any};
 ghost use Rattle.caf_script.specs.Reply as reply;
 ghost use Rattle.caf_script.specs.Reply.{plain_reply};

@@ -1,4 +1,4 @@
-use Rattle.std.proofs.Common.{◌≡◌, ℕ, ◌≤◌, List, length, ap, sym, subst, ◌∙◌}
+use Rattle.std.proofs.Common.{ℕ, ◌≤◌, List, length, ap, sym, subst, ◌∙◌}
 use Rattle.caf_types.specs.Table.{shape_at}
 use Rattle.caf_message.specs.Fits.{Fits}
 use Rattle.caf_message.specs.declared.message.Message.{Message}

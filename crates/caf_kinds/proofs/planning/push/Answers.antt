@@ -1,14 +1,12 @@
-use Rattle.std.proofs.Common.{◌≡◌, ℕ, ◌+◌, ◌<◌, true, List, ◌++◌, length, get_or, Option, Some, ap, sym, subst, ◌∙◌, refl, arith}
-use Rattle.caf_types.specs.ShapeTree.{ShapeTree}
+use Rattle.std.proofs.Common.{◌≡◌, true, ◌++◌, get_or, Some, ap, sym, subst, ◌∙◌, arith}
 use Rattle.caf_types.specs.Table.{Table, shape_at}
-use Rattle.caf_types.specs.TypeTable.{seen}
 use Rattle.caf_types.specs.declared.shape.TypeId.{TypeId}
 use Rattle.caf_words.specs.Datum.{fits}
 use Rattle.caf_words.specs.Value.{datum}
 use Rattle.caf_words.specs.Spelling.{spelling}
 use Rattle.caf_words.specs.declared.value.Value.{Value}
 use Rattle.caf_kinds.specs.Core.{core}
-use Rattle.caf_kinds.proofs.PlanningLemmas.{HasShape, shape_of, as_many, built_more}
+use Rattle.caf_kinds.proofs.PlanningLemmas.{shape_of, as_many, built_more}
 use Rattle.caf_kinds.proofs.planning.push.Goals as goal
 
 abbrev no_type : TypeId

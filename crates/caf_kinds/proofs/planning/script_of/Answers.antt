@@ -1,7 +1,6 @@
-use Rattle.std.proofs.Common.{◌≡◌, ◌+◌, length, subst, sym, ap, ◌∙◌, arith}
+use Rattle.std.proofs.Common.{◌+◌, subst, sym, ap, ◌∙◌}
 use Rattle.caf_kinds.specs.Starting.{IsTypedStep}
 use Rattle.caf_kinds.specs.Planning.{planned_step}
-use Rattle.caf_kinds.specs.declared.script.Step.{Step}
 use Rattle.caf_kinds.proofs.PlanningLemmas.{one_of_all, planned_none, planned_more, planned_all}
 use Rattle.caf_kinds.proofs.planning.script_of.Goals as goal
 

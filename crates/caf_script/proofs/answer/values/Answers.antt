@@ -1,4 +1,4 @@
-use Rattle.std.proofs.Common.{◌≡◌, ◌+◌, ℕ, List, length, drop, ap, sym, subst, ◌∙◌}
+use Rattle.std.proofs.Common.{ℕ, List, sym, subst, ◌∙◌}
 use Rattle.caf_types.specs.TypeTable.{seen}
 use Rattle.caf_words.specs.Several.{ids_of, TypesSpell}
 use Rattle.caf_script.proofs.ReplyLemmas.{has_types, has_words, are_words, spelled_words, never_faulty}

@@ -1,4 +1,4 @@
-use Rattle.std.proofs.Common.{◌≡◌, ℕ, List, map, false, sym, subst, ap, refl, arith}
+use Rattle.std.proofs.Common.{◌≡◌, map, false, ap, refl, arith}
 use Rattle.std.specs.Prelude.{nat_lt}
 use Rattle.std.proofs.lemmas.Bool.Decides.{nat_tests}
 use Rattle.caf_actor.specs.PlainForms.{plain_output}

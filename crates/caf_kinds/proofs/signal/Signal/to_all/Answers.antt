@@ -1,4 +1,4 @@
-use Rattle.std.proofs.Common.{List, [], ◌∷◌, ◌++◌, map, take, ap, sym, ◌∙◌}
+use Rattle.std.proofs.Common.{[], ◌∷◌, ◌++◌, map, ap, sym, ◌∙◌}
 use Rattle.std.proofs.lemmas.List.{map_push, map_more}
 use Rattle.caf_actor.specs.PlainForms.{plain_output}
 use Rattle.caf_kinds.specs.Signals.{signalled}

@@ -1,6 +1,6 @@
-use Rattle.std.proofs.Common.{Bool, List, ap, ◌∙◌}
+use Rattle.std.proofs.Common.{ap, ◌∙◌}
 use Rattle.std.specs.List.{list_any}
-use Rattle.caf_script.specs.Reply.{Reply, plain_reply, is_open}
+use Rattle.caf_script.specs.Reply.{plain_reply, is_open}
 use Rattle.caf_script.specs.declared.replies.StepReply.{StepReply}
 use Rattle.caf_script.proofs.ReplyLemmas.{any_mapped}
 use Rattle.caf_script.proofs.replies.Replies.wait.Goals as goal

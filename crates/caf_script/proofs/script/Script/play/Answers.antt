@@ -1,4 +1,4 @@
-use Rattle.std.proofs.Common.{length, map, refl, ap, sym, ◌∙◌, arith}
+use Rattle.std.proofs.Common.{map, refl, sym, ◌∙◌, arith}
 use Rattle.caf_actor.specs.PlainForms.{plain_output}
 use Rattle.caf_script.proofs.ScriptLemmas.{left_on, played_none, played_all}
 use Rattle.caf_script.proofs.script.Script.play.Goals as goal
