@@ -1,91 +1,123 @@
+ghost use Rattle.std.specs.Prelude.{[], ◌∷◌, refl, IfOk};
+ghost use Rattle.caf_types.specs.ShapeTree.{unsigned};
+ghost use Rattle.caf_types.specs.Table.{built_in};
+ghost use Rattle.caf_words.specs.Datum.{an_unsigned, no_data, more};
+ghost use Rattle.caf_message.specs.Fits.{FitsTable};
+
 use crate::{Planned, Script, StepReply};
 use caf_actor::Output;
-use caf_message::{Message, MessageBuilder};
+use caf_message::{Message, MessageFault};
 use caf_response::Mode;
-use caf_types::{Priority, Reason, Sec, Seq, TypeId, TypeIds, TypeTable};
-use caf_words::Value;
+use caf_types::{Memory, Priority, Reason, Sec, Seq, Shape, TypeId, TypeIds, TypeTable};
+use caf_words::{Row, Stop, Value, read_word, write_word};
 use std::alloc::Global;
 use std::test::Fail;
 
-/// The list of the type `unsigned`.
-fn one_number(alloc: Global) -> Result<TypeIds, Fail> {
-    let mut types = Seq::new(alloc);
-    types.push(TypeId(2))?;
-    Ok(types)
+/// One element of type `unsigned`.
+#[derive(Drop)]
+struct Number(u64);
+
+impl Row for Number {
+    ghost ids = { 2 ∷ [] };
+
+    ghost shapes = { unsigned ∷ [] };
+
+    ghost means = { λ row. more (an_unsigned row.0) no_data };
+
+    fn types(alloc: Global) -> Result<TypeIds, Memory> {
+        let mut types = Seq::new(alloc);
+        types.push(TypeId(2))?;
+        Ok(types)
+    }
+
+    fn shapes(alloc: Global) -> Result<Seq<Shape>, Memory> {
+        let mut shapes = Seq::new(alloc);
+        shapes.push(Shape::Unsigned)?;
+        Ok(shapes)
+    }
+
+    fn write_words(&self, words: &mut Vec<u64>) -> Result<(), Memory> {
+        write_word(words, self.0)
+    }
+
+    fn read_words(_alloc: Global, words: &[u64]) -> Result<(Number, &[u64]), Stop> {
+        let (number, rest) = read_word(words)?;
+        Ok((Number(number), rest))
+    }
+
+    ghost one_shape_each = { refl };
+
+    ghost are_of_shapes = { λ row. refl };
 }
 
 /// The message of one number.
-fn number(alloc: Global, table: &TypeTable, number: u64) -> Result<Message, Fail> {
-    let mut builder = MessageBuilder::new(alloc);
-    builder.push(table, TypeId(2), &Value::Unsigned(number))?;
-    Ok(builder.finish()?)
+fn message_of(alloc: Global, number: u64) -> Result<Message, MessageFault>
+    ensures { IfOk result (λ message. FitsTable built_in message.content) }
+{
+    let message = Message::of(alloc, &Number(number))?;
+    Ok(message)
 }
 
 /// A request to place 1 with that tag, which is answered by a number.
-fn ask(alloc: Global, table: &TypeTable, tag: u32) -> Result<Planned, Fail> {
-    let types = one_number(alloc)?;
-    let message = number(alloc, table, 5)?;
+fn ask(alloc: Global, tag: u32) -> Result<Planned, MessageFault> {
+    let message = message_of(alloc, 5)?;
+    let types = Number::types(alloc)?;
     let output = Output::Request(1, Priority::Normal, Mode::Multiplexed, tag, types, message);
-    Ok(Planned::Ask(output, one_number(alloc)?))
+    Ok(Planned::Ask(output, Number::types(alloc)?))
 }
 
-/// How many of the outputs are requests, and how many are others.
-fn counts(outputs: &Seq<Output>) -> (u32, u32) {
-    let mut requests = 0;
-    let mut others = 0;
-    for output in outputs {
-        match output {
-            Output::Request(_, _, _, _, _, _) => requests += 1,
-            _ => others += 1,
-        }
-    }
-    (requests, others)
+/// An exit of place 1.
+fn exit() -> Planned {
+    Planned::Send(Output::Exit(1, Reason::Kill))
 }
 
-/// What became of each step: 0 unsent, 1 open, the number of an answer and 2, 9 an error.
-fn told(script: &Script) -> u64 {
-    let mut all = 0;
-    for reply in script.replies() {
-        let one = match reply {
-            StepReply::Unsent => 0,
-            StepReply::Open_ => 1,
-            StepReply::Value(values) => 2 + first(values),
-            StepReply::Error(_) => 9,
-        };
-        all = all * 10 + one;
+/// What became of the step at that position: 0 nothing, 1 that it is open, 9 an error, and else the number that
+/// answers it.
+fn told(script: &Script, step: u64) -> u64 {
+    match script.replies().get(step) {
+        Some(StepReply::Open_) => 1,
+        Some(StepReply::Value(values)) => first(values),
+        Some(StepReply::Error(_)) => 9,
+        Some(StepReply::Unsent) | None => 0,
     }
-    all
 }
 
 fn first(values: &Seq<Value>) -> u64 {
     match values.get(0) {
         Some(Value::Unsigned(number)) => *number,
-        _ => 7,
+        _ => 0,
     }
+}
+
+/// Two requests, a sync, an exit, a tick and a request.
+fn script_of(alloc: Global) -> Result<Script, MessageFault> {
+    let mut script = Script::new(alloc);
+    script.add(ask(alloc, 1)?)?;
+    script.add(ask(alloc, 2)?)?;
+    script.add(Planned::Sync)?;
+    script.add(exit())?;
+    script.add(Planned::Tick)?;
+    script.add(ask(alloc, 6)?)?;
+    Ok(script)
 }
 
 #[test]
 fn steps_wait_for_replies_and_for_ticks(rt: HostRuntime) -> Result<(), Fail> {
     let alloc = rt.alloc();
     let table = TypeTable::new(alloc)?;
-    let mut script = Script::new(alloc);
-    script.add(ask(alloc, &table, 1)?)?;
-    script.add(ask(alloc, &table, 2)?)?;
-    script.add(Planned::Sync)?;
-    script.add(Planned::Send(Output::Exit(1, Reason::Kill)))?;
-    script.add(Planned::Tick)?;
-    script.add(ask(alloc, &table, 6)?)?;
-    assert_eq!(rt; counts(&script.go_on(alloc)?), (2, 0));
-    assert_eq!(rt; told(&script), 110000);
-    let outputs = script.answer(alloc, &table, 2, number(alloc, &table, 3)?)?;
-    assert_eq!(rt; counts(&outputs), (0, 0));
-    assert_eq!(rt; told(&script), 150000);
+    let mut script = script_of(alloc)?;
+    assert_eq!(rt; script.go_on(alloc)?.len(), 2);
+    assert_eq!(rt;
+        (told(&script, 0), told(&script, 1), told(&script, 5)),
+        (1, 1, 0)
+    );
+    let outputs = script.answer(alloc, &table, 2, message_of(alloc, 3)?)?;
+    assert_eq!(rt; (outputs.len(), told(&script, 1)), (0, 3));
     let outputs = script.fail(alloc, 1, Sec::BrokenPromise)?;
-    assert_eq!(rt; counts(&outputs), (0, 1));
-    assert_eq!(rt; told(&script), 950000);
-    assert_eq!(rt; counts(&script.tick(alloc)?), (1, 0));
-    assert_eq!(rt; told(&script), 950001);
+    assert_eq!(rt; (outputs.len(), told(&script, 0)), (1, 9));
+    assert_eq!(rt; script.tick(alloc)?.len(), 1);
+    assert_eq!(rt; told(&script, 5), 1);
     script.stop();
-    assert_eq!(rt; counts(&script.go_on(alloc)?), (0, 0));
+    assert_eq!(rt; script.go_on(alloc)?.len(), 0);
     Ok(())
 }
