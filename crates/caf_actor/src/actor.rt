@@ -182,4 +182,16 @@ impl<B: Behavior> Actor<B> {
     {
         &self.journal
     }
+
+    /// The behaviour's last value and the journal, out of an actor whose run is over. No memory is taken.
+    pub fn into_parts(self) -> (B, Journal)
+        ensures behavior { result.0 ≡ self.snapshot.behavior }
+        ensures journal { result.1 ≡ self.journal }
+    {
+        let Actor {
+            snapshot, journal, ..
+        } = self;
+        let Snapshot { behavior, .. } = snapshot;
+        (behavior, journal)
+    }
 }
