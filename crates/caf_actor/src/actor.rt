@@ -189,7 +189,9 @@ impl<B: Behavior> Actor<B> {
         ensures journal { result.1 ≡ self.journal }
     {
         let Actor {
-            snapshot, journal, ..
+            snapshot,
+            journal,
+            ..
         } = self;
         let Snapshot { behavior, .. } = snapshot;
         (behavior, journal)
