@@ -6,3 +6,4 @@ pub mod NamesLemmas
 pub mod ElementLemmas
 pub mod StepLemmas
 pub mod ValidLemmas
+pub mod BuiltinLemmas

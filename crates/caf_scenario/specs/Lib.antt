@@ -16,3 +16,4 @@ pub mod Contents
 pub mod Steps
 pub mod Scenario
 pub mod Valid
+pub mod Builtin

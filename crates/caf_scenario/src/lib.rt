@@ -5,10 +5,11 @@
 //! first fault of the first pass that has one is the document's; one without faults says a scenario (`Scenario`).
 //!
 //! The contract that the layers above rest on: [`read_scenario`] answers a scenario exactly where the document has no
-//! fault, namely the one that it says, and else its first fault.
+//! fault, namely the one that it says, and else its first fault. [`builtin`] is the scenario that indexes files.
 #![tactic(auto)]
 
 mod actor_form;
+mod built_in;
 mod document_form;
 mod elements;
 mod fault;
@@ -23,6 +24,7 @@ mod steps;
 mod surplus;
 mod written;
 
+pub use built_in::builtin;
 pub use fault::ScenarioFault;
 pub use scenario::{Scenario, read_scenario};
 

@@ -80,7 +80,7 @@ fn peer_of(
 }
 
 /// So many places, from the first on.
-fn reserve_of(alloc: Global, first: u32, count: u32) -> Result<Places, Memory>
+pub(crate) fn reserve_of(alloc: Global, first: u32, count: u32) -> Result<Places, Memory>
     requires { first + count ≤ 256 }
     ensures { IfOk result (λ places. places ≡ range_with_len first count) }
 {

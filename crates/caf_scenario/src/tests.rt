@@ -3,7 +3,7 @@ ghost use Rattle.caf_types.specs.TypeTable.{seen};
 ghost use Rattle.caf_kinds.specs.Core.{core};
 
 use crate::elements::{Contents, is_large};
-use crate::read_scenario;
+use crate::{builtin, read_scenario};
 use caf_kinds::{KindName, Step, core_table};
 use caf_types::{Priority, Seq, TypeId, TypeIds, TypeTable};
 use caf_words::Value;
@@ -589,5 +589,30 @@ fn what_a_document_says_is_read(rt: HostRuntime) -> Result<(), Fail> {
         )
     );
     assert!(rt; matches!(scenario.script.get(1), Some(Step::Exit(1, _))));
+    Ok(())
+}
+
+/// The document of the built-in scenario with two counters.
+const BUILT_IN: &str = r#"{"actors":[
+ {"name":"src","kind":"source","peers":["lines","relay","col"]},
+ {"name":"lines","kind":"lines","peers":["col"]},
+ {"name":"relay","kind":"relay","peers":["c1","c2"]},
+ {"name":"c1","kind":"counter","peers":["col"]},
+ {"name":"c2","kind":"counter","peers":["col"]},
+ {"name":"col","kind":"collector"}],
+ "script":[
+ {"do":"tell","to":"src","message":[{"start":null}]},
+ {"do":"request","to":"col","message":[{"index":null}]}]}"#;
+
+#[test]
+fn the_built_in_scenario_is_what_its_document_says(rt: HostRuntime) -> Result<(), Fail> {
+    let alloc = rt.alloc();
+    let table = core_table(alloc)?;
+    let read = read_scenario(alloc, &table, BUILT_IN.as_bytes())?;
+    let built = builtin(alloc, 2)?;
+    assert_eq!(rt;
+        format!(in alloc; "{built:?}")?,
+        format!(in alloc; "{read:?}")?
+    );
     Ok(())
 }

@@ -5,9 +5,9 @@ use Rattle.caf_signature.specs.declared.interface.Signature.{Signature}
 use Rattle.caf_kinds.specs.Kinds.{interface_of}
 use Rattle.caf_kinds.specs.Peers.{wanted_of}
 use Rattle.caf_scenario.specs.Actors.{kind_of}
-use Rattle.caf_scenario.specs.Peers.{asked_fault, peer_fault}
+use Rattle.caf_scenario.specs.Peers.{asked_fault}
 use Rattle.caf_scenario.specs.Read.{unless, interface}
-use Rattle.caf_scenario.specs.Scenario.{place_of, place_in}
+use Rattle.caf_scenario.specs.Scenario.{place_in}
 use Rattle.caf_scenario.proofs.setups.peer_of.Goals as goal
 
 pub returns-then-not-assignable : goal.returns-then-not-assignable
