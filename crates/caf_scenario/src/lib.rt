@@ -27,6 +27,7 @@ mod written;
 pub use built_in::builtin;
 pub use fault::ScenarioFault;
 pub use scenario::{Scenario, read_scenario};
+pub use written::{Way, WrittenActor};
 
 #[cfg(test)]
 mod tests;

@@ -4,21 +4,24 @@ use caf_response::Mode;
 use caf_types::{Letters, Name, Priority, Reason, Seq};
 use serde_json::Value as Json;
 
-/// An actor.
+/// An actor as a document in form writes it. The specifications speak of it.
 #[derive(Debug, Drop)]
-pub(crate) struct WrittenActor {
-    pub(crate) name: Name,
-    /// Any text.
-    pub(crate) kind: Letters,
-    pub(crate) peers: Seq<Name>,
+pub struct WrittenActor {
+    /// Its name.
+    pub name: Name,
+    /// The name of its kind: any text.
+    pub kind: Letters,
+    /// The names of its peers.
+    pub peers: Seq<Name>,
     /// How many places it reserves.
-    pub(crate) children: u32,
-    pub(crate) asleep: bool,
+    pub children: u32,
+    /// Whether it is asleep at first.
+    pub asleep: bool,
 }
 
 /// How content is sent.
 #[derive(Clone, Copy, Debug, PartialEq, Eq, Drop)]
-pub(crate) enum Way {
+pub enum Way {
     /// Without a response.
     Tell,
     /// As a request.

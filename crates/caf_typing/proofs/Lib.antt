@@ -1,0 +1,5 @@
+pub mod FaultLemmas
+pub mod MessageLemmas
+pub mod PlaceLemmas
+pub mod StepLemmas
+pub mod OpensLemmas

@@ -1,0 +1,15 @@
+-- Scenarios without faults can be played.
+use Rattle.std.specs.Prelude.{◌≡◌, ℕ, List, true}
+use Rattle.std.specs.List.{AllByRecursion}
+use Rattle.caf_kinds.specs.Starting.{has_short_lines}
+use Rattle.caf_opening.specs.Opening.{CanOpen}
+use Rattle.caf_scenario.specs.Valid.{IsValidScenario, IsScenarioOf}
+use Rattle.caf_scenario.specs.declared.scenario.Scenario.{Scenario}
+
+abbrev pub HaveShortLines : List (List ℕ) → Type 0
+HaveShortLines files = AllByRecursion (λ bytes. has_short_lines 0 bytes ≡ true) files
+
+-- what bytes without a fault say can be opened over any files with short lines
+abbrev pub ValidScenarioOpens : Type 0
+ValidScenarioOpens = (bytes : List ℕ) (scenario : Scenario) (files : List (List ℕ)) → IsValidScenario bytes → IsScenarioOf bytes scenario
+    → HaveShortLines files → CanOpen scenario.setups scenario.script files
