@@ -19,6 +19,7 @@ use caf_words::Value;
 use std::alloc::Global;
 
 /// How a run ended.
+#[derive(Clone, Copy, Drop)]
 struct Ending<'a> {
     /// The table of its types.
     table: &'a TypeTable,

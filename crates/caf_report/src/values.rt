@@ -1,7 +1,6 @@
 //! The text of a reply's values.
-ghost use Rattle.std.specs.Prelude.{◌≡◌, ◌++◌, ◌∷◌, true, map, is_some, Some, IfOk, OnOk};
+ghost use Rattle.std.specs.Prelude.{◌≡◌, ◌++◌, ◌∷◌, true, map, is_some, IfOk, OnOk};
 ghost use Rattle.caf_types.specs.Shape.{tree};
-ghost use Rattle.caf_types.specs.ShapeTree.{ShapeTree};
 ghost use Rattle.caf_types.specs.Table.{shape_at};
 ghost use Rattle.caf_types.specs.TypeTable.{seen};
 ghost use Rattle.caf_text.specs.TextForm.{text_form};
@@ -9,8 +8,7 @@ ghost use Rattle.caf_words.specs.Datum.{data_of, fits};
 ghost use Rattle.caf_words.specs.Several.{ids_of, shapes_at};
 ghost use Rattle.caf_words.specs.Value.{datum};
 ghost use Rattle.caf_script.specs.Reply as reply;
-ghost use Rattle.caf_report.specs.Values.{form_at, forms, values_text};
-ghost use Rattle.caf_report.proofs.ValueLemmas.{TypesFit};
+ghost use Rattle.caf_report.specs.Values.{AreOfTypes, IsOfShape, form_at, forms, values_text};
 
 use caf_events::save_value;
 use caf_inspect::TextSaver;
@@ -72,7 +70,7 @@ fn push_values(
     types: &[TypeId],
     values: &[Value],
 ) -> Result<(), Memory>
-    requires { TypesFit (seen table.now) (ids_of types.now) (data_of (map datum values.now)) }
+    requires { AreOfTypes (seen table.now) (ids_of types.now) (data_of (map datum values.now)) }
     ensures { OnOk result (text.new.items ≡ text.old.items ++ forms (seen table.now) (ids_of types.now) (data_of (map datum values.now))) }
 {
     for i in 0..types.len() {
@@ -89,7 +87,7 @@ fn push_value(
     id: TypeId,
     value: &Value,
 ) -> Result<(), Memory>
-    requires { (f : ShapeTree) × (shape_at (seen table.now) id.0 ≡ Some f) × (fits f (datum value.now) ≡ true) }
+    requires { IsOfShape (shape_at (seen table.now) id.0) (datum value.now) }
     ensures { OnOk result (text.new.items ≡ text.old.items ++ 32 ∷ form_at (shape_at (seen table.now) id.0) (datum value.now)) }
 {
     let Some(shape) = table.shape(id) else {
