@@ -1,5 +1,5 @@
 -- Values of types, and their text.
-use Rattle.std.proofs.Common.{◌≡◌, ℕ, zero, suc, ◌+◌, ◌<◌, true, false, Bool, List, [], ◌∷◌, ◌++◌, length, map, drop, get_or, Option, Some, None, Ok, refl, sym, ap, subst, ◌∙◌, arith, append_assoc}
+use Rattle.std.proofs.Common.{◌≡◌, ℕ, zero, suc, ◌+◌, ◌<◌, ◌≤◌, true, false, Bool, List, [], ◌∷◌, ◌++◌, length, map, drop, get_or, Option, Some, None, Ok, refl, sym, ap, subst, ◌∙◌, arith, append_assoc}
 use Rattle.std.specs.Prelude.{◌&&◌}
 use Rattle.std.proofs.lemmas.List.{drop_more}
 use Rattle.caf_types.specs.ShapeTree.{ShapeTree}
@@ -52,6 +52,16 @@ is_within : {A : Type 0} (i : ℕ) (xs : List A) → 0 < length (drop i xs) → 
 is_within zero xs h = h
 is_within (suc i) [] h = absurd (omega (arith, h))
 is_within (suc i) (x ∷ xs) h = let r = is_within i xs h in omega (arith, r)
+
+-- there are as many values as types
+pub as_many : (t : Table) (types : List TypeId) (values : List Value) → AreOfTypes t (ids_of types) (plain values) → length types ≤ length values
+as_many t [] values h = omega arith
+as_many t (x ∷ xs) [] h =
+    let some = some_value (shape_at t x.0) (shapes_at t (ids_of xs)) [] h in
+    absurd (omega (arith, some))
+as_many t (x ∷ xs) (v ∷ vs) h =
+    let r = as_many t xs vs (first_value (shape_at t x.0) (shapes_at t (ids_of xs)) v vs h).1 in
+    omega (arith, r)
 
 -- ---- the loop over the types
 

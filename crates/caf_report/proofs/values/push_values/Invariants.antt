@@ -1,4 +1,4 @@
-use Rattle.std.proofs.Common.{◌≡◌, ◌++◌, drop, map}
+use Rattle.std.proofs.Common.{◌≡◌, ◌≤◌, ◌++◌, drop, map, length}
 use Rattle.caf_types.specs.TypeTable.{seen}
 use Rattle.caf_words.specs.Datum.{data_of}
 use Rattle.caf_words.specs.Several.{ids_of}
@@ -10,3 +10,4 @@ abbrev pub invariant-loop-i : goal.invariant-loop-i
 invariant-loop-i l =
     (l.text.items ++ forms (seen l.table) (ids_of (drop l.i l.types)) (data_of (map datum (drop l.i l.values))) ≡ l.initial.text.items ++ forms (seen l.table) (ids_of l.types) (data_of (map datum l.values)))
     × AreOfTypes (seen l.table) (ids_of (drop l.i l.types)) (data_of (map datum (drop l.i l.values)))
+    × (length l.types ≤ length l.values)
