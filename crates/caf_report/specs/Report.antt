@@ -1,5 +1,5 @@
 -- The text of a record.
-use Rattle.std.specs.Prelude.{ℕ, ◌+◌, Bool, true, false, List, [], ◌∷◌, ◌++◌, bytes_eq, codes, slice_get, Option, Some, None, if◌then◌else◌}
+use Rattle.std.specs.Prelude.{ℕ, ◌+◌, Bool, true, false, List, [], ◌∷◌, ◌++◌, bytes_eq, codes, map, slice_get, Option, Some, None, if◌then◌else◌}
 use Rattle.caf_types.specs.TypeTable.{seen}
 use Rattle.caf_types.specs.Table.{Table}
 use Rattle.caf_types.specs.declared.shape.TypeId.{TypeId}
@@ -7,7 +7,7 @@ use Rattle.caf_words.specs.Several.{ids_of}
 use Rattle.caf_signature.specs.Interface.{result_for}
 use Rattle.caf_index.specs.Index.{Entries}
 use Rattle.caf_index.specs.IndexText.{index_text_of}
-use Rattle.caf_script.specs.Reply.{Reply, Unsent, Open, Answered, Failed}
+use Rattle.caf_script.specs.Reply.{Reply, plain_reply, Unsent, Open, Answered, Failed}
 use Rattle.caf_kinds.specs.Kinds.{interface, index_of, replies_of}
 use Rattle.caf_kinds.specs.declared.kind.Kind.{Kind}
 use Rattle.caf_kinds.specs.declared.script.Step.{Step}
@@ -18,14 +18,16 @@ use Rattle.caf_report.specs.Values.{values_text}
 use Rattle.caf_report.specs.Lines.{unsent_line, error_line, value_line}
 use Rattle.caf_report.specs.declared.report.Ending.{Ending}
 
--- how a run ended: the table of its types, the names of its files, and its behaviours by place
+-- how a run ended: the table of its types, the names of its files, its behaviours by place, and what became of
+-- each step
 pub record End : Type 0 where
   pub table : Table
   pub names : List (List ℕ)
   pub kinds : List Kind
+  pub replies : List Reply
 
 abbrev pub end_of : Ending → End
-end_of ending = record { table = seen ending.table.now; names = ending.names.now; kinds = ending.kinds.now }
+end_of ending = record { table = seen ending.table.now; names = ending.names.now; kinds = ending.kinds.now; replies = map plain_reply ending.replies.now }
 
 -- ---- the actor that was asked
 
@@ -54,17 +56,9 @@ abbrev pub or_unsent : Option Reply → Reply
 or_unsent (Some reply) = reply
 or_unsent None = Unsent
 
-abbrev pub reply_in : Option (List Reply) → ℕ → Reply
-reply_in (Some replies) before = or_unsent (slice_get replies before)
-reply_in None before = Unsent
-
-abbrev pub replies_at : Option Kind → Option (List Reply)
-replies_at (Some kind) = replies_of kind
-replies_at None = None
-
--- the reply of the step behind so many others, as the conductor has it, which is the actor at place 0
+-- the reply of the step behind so many others
 abbrev pub reply_at : End → ℕ → Reply
-reply_at end before = reply_in (replies_at (slice_get end.kinds 0)) before
+reply_at end before = or_unsent (slice_get end.replies before)
 
 -- the message is [index]
 abbrev pub asks_index : List TypeId → Bool
@@ -101,5 +95,17 @@ abbrev pub trace_part : Bool → RunRecord → List ℕ
 trace_part true kept = codes "trace" ++ 10 ∷ trace_of kept
 trace_part false kept = []
 
-abbrev pub text_of : End → List Step → RunRecord → Bool → List ℕ
-text_of end script kept is_traced = steps_text end 0 script ++ trace_part is_traced kept
+abbrev pub or_no_replies : Option (List Reply) → List Reply
+or_no_replies (Some replies) = replies
+or_no_replies None = []
+
+abbrev pub replies_at : Option Kind → List Reply
+replies_at (Some kind) = or_no_replies (replies_of kind)
+replies_at None = []
+
+-- the conductor, which has the replies, is the actor at place 0
+abbrev pub ended : Table → List (List ℕ) → List Kind → End
+ended table names kinds = record { table = table; names = names; kinds = kinds; replies = replies_at (slice_get kinds 0) }
+
+abbrev pub text_of : Table → List Step → List (List ℕ) → List Kind → RunRecord → Bool → List ℕ
+text_of table script names kinds kept is_traced = steps_text (ended table names kinds) 0 script ++ trace_part is_traced kept

@@ -1,11 +1,11 @@
 //! The whole text, request by request.
-ghost use Rattle.std.specs.Prelude.{◌≡◌, ◌++◌, ◌≤◌, ◌+◌, ◌<◌, ◌^◌, true, length, slice_get, IfOk, OnOk};
-ghost use Rattle.std.specs.Option.{option_copied, option_map};
+ghost use Rattle.std.specs.Prelude.{◌≡◌, ◌++◌, ◌≤◌, ◌+◌, ◌<◌, ◌^◌, true, length, map, slice_get, IfOk, OnOk};
+ghost use Rattle.std.specs.Option.{option_copied};
 ghost use Rattle.caf_types.specs.TypeTable.{seen};
 ghost use Rattle.caf_script.specs.Reply.{plain_reply, words_of};
 ghost use Rattle.caf_report.specs.Values.{values_text};
 ghost use Rattle.caf_report.specs.Report as report;
-ghost use Rattle.caf_report.specs.Report.{end_of, text_of};
+ghost use Rattle.caf_report.specs.Report.{end_of};
 
 use crate::lines::{push_error, push_front, push_unsent};
 use crate::values::push_reply;
@@ -20,13 +20,15 @@ use std::alloc::Global;
 
 /// How a run ended.
 #[derive(Clone, Copy, Drop)]
-struct Ending<'a> {
+pub(crate) struct Ending<'a> {
     /// The table of its types.
-    table: &'a TypeTable,
+    pub(crate) table: &'a TypeTable,
     /// The names of its files.
-    names: &'a Seq<Letters>,
+    pub(crate) names: &'a Seq<Letters>,
     /// Its behaviours by place.
-    kinds: &'a Seq<Kind>,
+    pub(crate) kinds: &'a Seq<Kind>,
+    /// What became of each step.
+    pub(crate) replies: &'a [StepReply],
 }
 
 /// The text of a record, where the conductor at place 0 played this script, the files have these names, and
@@ -47,19 +49,33 @@ pub fn record_text(
     is_traced: bool,
 ) -> Result<Octets, Memory>
     requires { length kept.now.journals ≤ 2 ^ 32 }
-    ensures { IfOk result (λ text. text ≡ text_of (record { table = seen table.now; names = names.now; kinds = kinds.now }) script.now kept.now is_traced) }
+    ensures { IfOk result (λ text. text ≡ report.text_of (seen table.now) script.now names.now kinds.now kept.now is_traced) }
 {
     let mut text = Vec::new(alloc);
     let ending = Ending {
         table,
         names,
         kinds,
+        replies: replies_of(kinds),
     };
     ending.push_steps(alloc, &mut text, script.as_slice())?;
     if is_traced {
         push_trace(alloc, &mut text, kept)?;
     }
     Ok(Seq::of_vec(text))
+}
+
+/// What became of each step, as the conductor has it, which is the actor at place 0.
+fn replies_of(kinds: &Seq<Kind>) -> &[StepReply]
+    ensures { map plain_reply result.now ≡ report.replies_at (slice_get kinds.now 0) }
+{
+    let Some(conductor) = kinds.get(0) else {
+        return &[];
+    };
+    match conductor.replies() {
+        Some(replies) => replies.as_slice(),
+        None => &[],
+    }
 }
 
 /// Adds the line `trace` and the trace.
@@ -75,7 +91,7 @@ fn push_trace(alloc: Global, text: &mut Vec<u8>, kept: &RunRecord) -> Result<(),
 
 impl<'a> Ending<'a> {
     /// Adds what became of the requests of the script.
-    fn push_steps(&self, alloc: Global, text: &mut Vec<u8>, script: &[Step]) -> Result<(), Memory>
+    pub(crate) fn push_steps(&self, alloc: Global, text: &mut Vec<u8>, script: &[Step]) -> Result<(), Memory>
         ensures { OnOk result (text.new.items ≡ text.old.items ++ report.steps_text (end_of self.now) 0 script.now) }
     {
         for before in 0..script.len() {
@@ -115,7 +131,7 @@ impl<'a> Ending<'a> {
         requires { before + 1 < 2 ^ 64 }
         ensures { OnOk result (text.new.items ≡ text.old.items ++ report.request_text (end_of self.now) (before + 1) to types.now (report.reply_at (end_of self.now) before)) }
     {
-        match self.reply(before) {
+        match self.replies.get(before as usize) {
             None | Some(StepReply::Unsent) => push_unsent(text, before + 1),
             Some(StepReply::Open_) => Ok(()),
             Some(StepReply::Error(why)) => push_error(text, before + 1, *why),
@@ -123,13 +139,6 @@ impl<'a> Ending<'a> {
                 self.push_answer(alloc, text, before + 1, to, types, values)
             }
         }
-    }
-
-    /// What the conductor knows of the step behind so many others.
-    fn reply(&self, before: u64) -> Option<&StepReply>
-        ensures { report.or_unsent (option_map plain_reply (option_copied result)) ≡ report.reply_at (end_of self.now) before }
-    {
-        self.kinds.get(0)?.replies()?.get(before)
     }
 
     /// Adds the answer of the actor at that place to a message of these types.
