@@ -91,7 +91,12 @@ fn push_trace(alloc: Global, text: &mut Vec<u8>, kept: &RunRecord) -> Result<(),
 
 impl<'a> Ending<'a> {
     /// Adds what became of the requests of the script.
-    pub(crate) fn push_steps(&self, alloc: Global, text: &mut Vec<u8>, script: &[Step]) -> Result<(), Memory>
+    pub(crate) fn push_steps(
+        &self,
+        alloc: Global,
+        text: &mut Vec<u8>,
+        script: &[Step],
+    ) -> Result<(), Memory>
         ensures { OnOk result (text.new.items ≡ text.old.items ++ report.steps_text (end_of self.now) 0 script.now) }
     {
         for before in 0..script.len() {
