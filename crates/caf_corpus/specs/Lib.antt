@@ -1,0 +1,3 @@
+-- Corpora, and their limits.
+pub mod Limits
+pub mod Corpus
