@@ -1,0 +1,4 @@
+pub mod ListLemmas
+pub mod ApartLemmas
+pub mod PlaceLemmas
+pub mod OpenLemmas
