@@ -2,3 +2,4 @@ pub mod ListLemmas
 pub mod ApartLemmas
 pub mod PlaceLemmas
 pub mod OpenLemmas
+pub mod BuiltInLemmas

@@ -1,7 +1,13 @@
 //! The laws of undisturbed runs. A law is the contract of a function that does nothing.
+ghost use Rattle.caf_pipeline.specs.BuiltIn.{BuiltInIsUndisturbed};
 ghost use Rattle.caf_pipeline.specs.Undisturbed.{UndisturbedOpens};
 
 /// Undisturbed setups and their script can be opened with any files whose lines are short.
 pub fn undisturbed_opens()
     ensures { UndisturbedOpens }
+{}
+
+/// The built-in setups, of 1 to 200 counters, and their script are undisturbed.
+pub fn built_in_is_undisturbed()
+    ensures { BuiltInIsUndisturbed }
 {}
