@@ -3,3 +3,4 @@ pub mod ApartLemmas
 pub mod PlaceLemmas
 pub mod OpenLemmas
 pub mod BuiltInLemmas
+pub mod PostingsLemmas

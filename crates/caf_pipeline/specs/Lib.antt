@@ -1,2 +1,3 @@
 pub mod Undisturbed
 pub mod BuiltIn
+pub mod Postings

@@ -1,5 +1,6 @@
 //! The laws of undisturbed runs. A law is the contract of a function that does nothing.
 ghost use Rattle.caf_pipeline.specs.BuiltIn.{BuiltInIsUndisturbed};
+ghost use Rattle.caf_pipeline.specs.Postings.{PostingsFitAMessage};
 ghost use Rattle.caf_pipeline.specs.Undisturbed.{UndisturbedOpens};
 
 /// Undisturbed setups and their script can be opened with any files whose lines are short.
@@ -10,4 +11,9 @@ pub fn undisturbed_opens()
 /// The built-in setups, of 1 to 200 counters, and their script are undisturbed.
 pub fn built_in_is_undisturbed()
     ensures { BuiltInIsUndisturbed }
+{}
+
+/// The postings of a chunk, which has no more bytes than a line may have, fit a message: a counter never drops them.
+pub fn postings_fit_a_message()
+    ensures { PostingsFitAMessage }
 {}
