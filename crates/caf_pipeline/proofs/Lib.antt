@@ -4,3 +4,5 @@ pub mod PlaceLemmas
 pub mod OpenLemmas
 pub mod BuiltInLemmas
 pub mod PostingsLemmas
+pub mod RangeLemmas
+pub mod PartLemmas

@@ -1,3 +1,4 @@
 pub mod Undisturbed
 pub mod BuiltIn
 pub mod Postings
+pub mod Parts

@@ -1,5 +1,6 @@
 //! The laws of undisturbed runs. A law is the contract of a function that does nothing.
 ghost use Rattle.caf_pipeline.specs.BuiltIn.{BuiltInIsUndisturbed};
+ghost use Rattle.caf_pipeline.specs.Parts.{PartsHandOn};
 ghost use Rattle.caf_pipeline.specs.Postings.{PostingsFitAMessage};
 ghost use Rattle.caf_pipeline.specs.Undisturbed.{UndisturbedOpens};
 
@@ -16,4 +17,10 @@ pub fn built_in_is_undisturbed()
 /// The postings of a chunk, which has no more bytes than a line may have, fit a message: a counter never drops them.
 pub fn postings_fit_a_message()
     ensures { PostingsFitAMessage }
+{}
+
+/// What each part of a pipeline does with what it takes: the source tells its chunks, lines tells their extents, the
+/// relay hands them on in lower case, a counter tells their postings, and the collector puts all of these together.
+pub fn parts_hand_on()
+    ensures { PartsHandOn }
 {}
