@@ -6,3 +6,4 @@ pub mod BuiltInLemmas
 pub mod PostingsLemmas
 pub mod RangeLemmas
 pub mod PartLemmas
+pub mod SentLemmas

@@ -2,3 +2,4 @@ pub mod Undisturbed
 pub mod BuiltIn
 pub mod Postings
 pub mod Parts
+pub mod Sent

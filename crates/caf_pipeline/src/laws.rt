@@ -2,6 +2,7 @@
 ghost use Rattle.caf_pipeline.specs.BuiltIn.{BuiltInIsUndisturbed};
 ghost use Rattle.caf_pipeline.specs.Parts.{PartsHandOn};
 ghost use Rattle.caf_pipeline.specs.Postings.{PostingsFitAMessage};
+ghost use Rattle.caf_pipeline.specs.Sent.{UndisturbedScriptIsSent};
 ghost use Rattle.caf_pipeline.specs.Undisturbed.{UndisturbedOpens};
 
 /// Undisturbed setups and their script can be opened with any files whose lines are short.
@@ -23,4 +24,9 @@ pub fn postings_fit_a_message()
 /// relay hands them on in lower case, a counter tells their postings, and the collector puts all of these together.
 pub fn parts_hand_on()
     ensures { PartsHandOn }
+{}
+
+/// The conductor of an undisturbed script sends the script's messages and no others, all of them at Start.
+pub fn undisturbed_script_is_sent()
+    ensures { UndisturbedScriptIsSent }
 {}
