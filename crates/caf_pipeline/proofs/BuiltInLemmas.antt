@@ -1,17 +1,16 @@
 -- The built-in setups and script are undisturbed.
-use Rattle.std.proofs.Common.{◌≡◌, ◌≢◌, ℕ, zero, suc, ◌+◌, ◌-◌, ◌<◌, ◌≤◌, List, [], ◌∷◌, ◌++◌, length, Some, inl, inr, refl, sym, subst, ap, ◌∙◌, arith}
+use Rattle.std.proofs.Common.{◌≡◌, ℕ, zero, suc, ◌+◌, ◌-◌, ◌<◌, ◌≤◌, List, [], ◌∷◌, ◌++◌, length, Some, inl, inr, refl, subst, ap, ◌∙◌, arith}
 use Rattle.std.specs.Prelude.{slice_get, Contains}
 use Rattle.std.specs.List.{AllByRecursion, range_with_len}
 use Rattle.std.proofs.lemmas.List.FromFn.{length-range_with_len}
 use Rattle.std.proofs.lemmas.List.{length-append}
 use Rattle.caf_index.proofs.ContainsLemmas.{contains-none, contains-here, contains-later, contains-cases}
 use Rattle.caf_kinds.specs.Setups.{setup_at}
-use Rattle.caf_kinds.specs.declared.script.Step.{Step}
 use Rattle.caf_kinds.specs.declared.setup.KindName.{KindName}
 use Rattle.caf_kinds.specs.declared.setup.KindName.TheVariants as name
 use Rattle.caf_kinds.specs.declared.setup.Setup.{Setup}
-use Rattle.caf_pipeline.specs.Undisturbed.{Pipeline, IsSetUp, IsPipeline, IsPlainScript, IsUndisturbed, AreApart, places_of}
-use Rattle.caf_pipeline.specs.BuiltIn.{collector_place, set_up, counters_telling, built_in_setups, IsBuiltInScript, BuiltInIsUndisturbed}
+use Rattle.caf_pipeline.specs.Undisturbed.{Pipeline, IsSetUp, IsPipeline, AreApart, places_of}
+use Rattle.caf_pipeline.specs.BuiltIn.{collector_place, set_up, counters_telling, built_in_setups, BuiltInIsUndisturbed}
 use Rattle.caf_pipeline.proofs.PlaceLemmas.{setup_from_1}
 
 -- ---- ranges of places
@@ -81,7 +80,6 @@ no_others n (suc (suc zero)) some within = (1, omega arith, refl)
 no_others n (suc (suc (suc zero))) some within = (2, omega arith, refl)
 no_others n (suc (suc (suc (suc k)))) some within = go (n - k) refl
   where
-
     go : (left : ℕ) → n - k ≡ left → Contains (places_of (built_in_pipeline n)) (suc (suc (suc (suc k))))
     go zero e =
         let same : collector_place n ≡ suc (suc (suc (suc k))) = omega (arith, e, within) in

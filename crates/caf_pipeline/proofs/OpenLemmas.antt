@@ -1,17 +1,16 @@
 -- Undisturbed setups and their script can be opened.
-use Rattle.std.proofs.Common.{◌≡◌, ◌≢◌, ℕ, zero, suc, ◌+◌, ◌-◌, ◌<◌, ◌≤◌, Bool, true, false, List, [], ◌∷◌, length, map, Option, Some, None, inl, inr, refl, sym, subst, ap, ◌∙◌, arith}
-use Rattle.std.specs.Prelude.{slice_get, Contains, ◌&&◌, nat_le}
+use Rattle.std.proofs.Common.{◌≡◌, ◌≢◌, ℕ, ◌+◌, ◌<◌, ◌≤◌, true, List, [], ◌∷◌, length, map, Option, Some, refl, sym, subst, ap, ◌∙◌, arith}
+use Rattle.std.specs.Prelude.{nat_le}
 use Rattle.std.specs.List.{AllByRecursion}
 use Rattle.std.proofs.lemmas.Bool.{le-leb}
 use Rattle.caf_types.specs.ShapeTree.{ShapeTree, unit}
 use Rattle.caf_types.specs.Table.{shape_at}
 use Rattle.caf_types.specs.declared.shape.TypeId.{TypeId}
-use Rattle.caf_words.specs.Datum.{Data, a_unit, more, no_data, data_of}
+use Rattle.caf_words.specs.Datum.{data_of}
 use Rattle.caf_words.specs.Several.{ids_of, several_fit}
 use Rattle.caf_words.specs.Value.{datum}
 use Rattle.caf_words.specs.declared.value.Value.{Value}
 use Rattle.caf_message.specs.Content.{content_of}
-use Rattle.caf_message.specs.Fits.{HaveShapes}
 use Rattle.caf_actor.specs.Rules.{is_input}
 use Rattle.caf_kinds.specs.Core.{core}
 use Rattle.caf_kinds.specs.Asking.{Types, atom, type_ids}
@@ -26,8 +25,8 @@ use Rattle.caf_kinds.specs.declared.script.Step.TheVariants as step
 use Rattle.caf_kinds.specs.declared.setup.KindName.{KindName}
 use Rattle.caf_kinds.specs.declared.setup.KindName.TheVariants as name
 use Rattle.caf_kinds.specs.declared.setup.Setup.{Setup}
-use Rattle.caf_opening.specs.Opening.{CanStand, CanOpen}
-use Rattle.caf_pipeline.specs.Undisturbed.{Pipeline, IsSetUp, IsPipeline, IsAtom, IsTold, IsRequested, IsPlainScript, IsUndisturbed, AreApart, HaveShortLines, UndisturbedOpens}
+use Rattle.caf_opening.specs.Opening.{CanStand}
+use Rattle.caf_pipeline.specs.Undisturbed.{Pipeline, IsSetUp, IsPipeline, IsAtom, IsTold, IsRequested, IsPlainScript, UndisturbedOpens}
 use Rattle.caf_pipeline.proofs.ListLemmas.{all_at, one_of, all_of}
 use Rattle.caf_pipeline.proofs.ApartLemmas.{no_more_than}
 use Rattle.caf_pipeline.proofs.PlaceLemmas.{IsSo, one_of_setups, at_each_place}
@@ -116,10 +115,12 @@ script_typed : (setups : List Setup) (p : Pipeline) (script : List Step) → IsP
 script_typed setups p [] is plays = absurd plays
 script_typed setups p (first ∷ []) is plays = absurd plays
 script_typed setups p (first ∷ second ∷ others) is plays = (
-      told_typed setups name.Source (p.lines ∷ p.relay ∷ p.collector ∷ []) p.source starting 206 is.source (record { is = refl; known = refl }) refl first plays.0,
-      (requested_typed setups name.Collector [] p.collector asking_index 208 is.collector (record { is = refl; known = refl }) refl second plays.1,
-      all_of (IsRequested p.collector asking_totals) (IsTypedStep setups) others (λ s one. requested_typed setups name.Collector [] p.collector asking_totals 209 is.collector (record { is = refl; known = refl }) refl s one) plays.2),
-    )
+  told_typed setups name.Source (p.lines ∷ p.relay ∷ p.collector ∷ []) p.source starting 206 is.source (record { is = refl; known = refl }) refl first plays.0,
+  (
+    requested_typed setups name.Collector [] p.collector asking_index 208 is.collector (record { is = refl; known = refl }) refl second plays.1,
+    all_of (IsRequested p.collector asking_totals) (IsTypedStep setups) others (λ s one. requested_typed setups name.Collector [] p.collector asking_totals 209 is.collector (record { is = refl; known = refl }) refl s one) plays.2,
+  ),
+)
 
 -- ---- both
 

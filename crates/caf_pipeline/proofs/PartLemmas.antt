@@ -1,8 +1,8 @@
 -- Each part of a pipeline does with what it takes what its kind says.
-use Rattle.std.proofs.Common.{◌≡◌, ℕ, zero, suc, ◌+◌, ◌<◌, ◌≤◌, Bool, true, false, List, [], ◌∷◌, length, map, Option, Some, None, refl, sym, subst, ap, ◌∙◌, arith}
-use Rattle.std.specs.Prelude.{◌^◌, ◌&&◌, nat_lt, slice_get, if◌then◌else◌}
+use Rattle.std.proofs.Common.{◌≡◌, ℕ, Bool, true, false, List, [], ◌∷◌, length, map, Option, Some, refl, ap, ◌∙◌, arith}
+use Rattle.std.specs.Prelude.{◌^◌, nat_lt, slice_get, if◌then◌else◌}
 use Rattle.std.specs.List.{list_all}
-use Rattle.std.proofs.lemmas.Bool.{lt-ltb, ltb-true, le-leb}
+use Rattle.std.proofs.lemmas.Bool.{lt-ltb, le-leb}
 use Rattle.std.proofs.lemmas.Bool.Decides.{nat_tests}
 use Rattle.std.proofs.lemmas.List.{length-map}
 use Rattle.caf_types.specs.Table.{shape_at}
@@ -14,16 +14,13 @@ use Rattle.caf_words.proofs.SeveralLemmas.{several_spelled}
 use Rattle.caf_actor.specs.declared.origin.Origin.{Origin}
 use Rattle.caf_actor.specs.PlainInput.{Content}
 use Rattle.caf_actor.specs.PlainOutput.{Tell}
-use Rattle.caf_actor.specs.PlainReaction.{PlainReaction}
 use Rattle.caf_index.specs.Words.{lower_case}
 use Rattle.caf_index.specs.Chunks.{lines_of}
-use Rattle.caf_index.specs.Postings.{stopped, posting_cmp, sorted_once, words_from}
-use Rattle.caf_index.specs.declared.posting.Posting.{Posting}
+use Rattle.caf_index.specs.Postings.{stopped, posting_cmp, sorted_once}
 use Rattle.caf_index.proofs.PostingLemmas.{words-lower}
 use Rattle.caf_kinds.specs.Core.{core, item}
-use Rattle.caf_kinds.specs.Asking.{Types, AreCore, type_ids, type_shapes, has, asked, content}
+use Rattle.caf_kinds.specs.Asking.{Types, AreCore, type_ids, type_shapes, asked, content}
 use Rattle.caf_kinds.specs.Contents.{chunk_means, item_means, postings_means, extent_means, finish_means}
-use Rattle.caf_kinds.specs.Collector as collector
 use Rattle.caf_kinds.specs.Collector.{on_postings, on_extent, on_finish}
 use Rattle.caf_kinds.specs.Counter as counter
 use Rattle.caf_kinds.specs.Counter.{item_of, postings_at, is_small, counted, told}
@@ -33,21 +30,19 @@ use Rattle.caf_kinds.specs.Kinds.{as_kind, reacted}
 use Rattle.caf_kinds.specs.Lines as lines
 use Rattle.caf_kinds.specs.Lines.{extent_of}
 use Rattle.caf_kinds.specs.LinesLaws.{few_lines}
-use Rattle.caf_kinds.specs.Pipeline.{of_chunk, of_postings, of_extent, of_finish, chunk_content, postings_content, extent_content, finish_content, chunk_in, items_in, postings_in, extent_in, finish_in, to_peer, sends}
-use Rattle.caf_kinds.specs.PipelineLaws.{both_true, HasRanges, has_ranges, in_range}
+use Rattle.caf_kinds.specs.Pipeline.{of_chunk, of_postings, of_extent, of_finish, chunk_content, chunk_in, items_in, postings_in, extent_in, finish_in, to_peer, sends}
+use Rattle.caf_kinds.specs.PipelineLaws.{both_true, has_ranges, in_range}
 use Rattle.caf_kinds.specs.Reacting.{answers, failed}
 use Rattle.caf_kinds.specs.Relay as relay
 use Rattle.caf_kinds.specs.Relay.{lowered, peer_for}
 use Rattle.caf_kinds.specs.Source as source
 use Rattle.caf_kinds.specs.Source.{Sourced, finish_of, on_start, on_more}
-use Rattle.caf_kinds.specs.declared.collector.Collector.{Collector}
 use Rattle.caf_kinds.specs.declared.contents.Chunk.{Chunk}
 use Rattle.caf_kinds.specs.declared.contents.Item.{Item}
 use Rattle.caf_kinds.specs.declared.contents.Postings.{Postings}
 use Rattle.caf_kinds.specs.declared.contents.Extent.{Extent}
 use Rattle.caf_kinds.specs.declared.contents.Finish.{Finish}
 use Rattle.caf_kinds.specs.declared.counter.Counter.{Counter}
-use Rattle.caf_kinds.specs.declared.kind.Kind.{Kind}
 use Rattle.caf_kinds.specs.declared.kind.Kind.TheVariants as kind
 use Rattle.caf_kinds.specs.declared.lines.Lines.{Lines}
 use Rattle.caf_kinds.specs.declared.relay.Relay.{Relay}

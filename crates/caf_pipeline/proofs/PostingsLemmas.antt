@@ -1,21 +1,18 @@
 -- How many words the postings of bytes have as a message: at most twice as many as there are bytes, and 7 more.
-use Rattle.std.proofs.Common.{◌≡◌, ℕ, zero, suc, ◌+◌, ◌-◌, ◌*◌, ◌<◌, ◌≤◌, Bool, true, false, List, [], ◌∷◌, ◌++◌, length, map, refl, sym, subst, ap, ◌∙◌, arith}
-use Rattle.std.specs.Prelude.{◌/◌, ◌&&◌, not, cond, if◌then◌else◌}
+use Rattle.std.proofs.Common.{◌≡◌, ℕ, zero, suc, ◌+◌, ◌*◌, ◌≤◌, Bool, true, false, List, [], ◌∷◌, ◌++◌, length, map, refl, ap, ◌∙◌, arith}
+use Rattle.std.specs.Prelude.{◌&&◌, not, cond, if◌then◌else◌}
 use Rattle.std.specs.List.{take_while}
-use Rattle.std.specs.declared.cmp.Ordering.{Ordering}
 use Rattle.std.specs.declared.cmp.Ordering.TheVariants.{Less, Equal, Greater}
 use Rattle.std.specs.FinMap.Entries.{by_order}
-use Rattle.std.proofs.lemmas.List.{length-append, length-map, map-append}
+use Rattle.std.proofs.lemmas.List.{length-append, map-append}
 use Rattle.std.proofs.lemmas.List.Sums.{take_while-cons}
-use Rattle.caf_words.specs.Datum.{Datum, data_of, more, no_data, count}
+use Rattle.caf_words.specs.Datum.{data_of}
 use Rattle.caf_words.specs.Spelling.{words_for, packed_in, packed, spelling, spellings}
 use Rattle.caf_index.specs.Words.{is_word_byte, lower_case, first_word, next_line, words_within}
 use Rattle.caf_index.specs.Postings.{stopped, words_from, posting_cmp, put_once, sorted_once, postings_of}
 use Rattle.caf_index.specs.declared.posting.Posting.{Posting}
-use Rattle.caf_kinds.specs.Contents.{item_means, postings_means}
+use Rattle.caf_kinds.specs.Contents.{item_means}
 use Rattle.caf_kinds.specs.Counter.{item_of, postings_at}
-use Rattle.caf_kinds.specs.Pipeline.{of_postings, postings_content}
-use Rattle.caf_kinds.specs.declared.contents.Chunk.{Chunk}
 use Rattle.caf_pipeline.specs.Postings.{PostingsFitAMessage}
 
 -- ---- what postings weigh

@@ -11,7 +11,7 @@ use Rattle.std.specs.Str.{is_utf8}
 use Rattle.std.specs.declared.cmp.Ordering.{Ordering}
 use Rattle.std.specs.declared.cmp.Ordering.TheVariants.{Less, Equal, Greater}
 use Rattle.std.specs.FinMap.Entries.{by_order}
-use Rattle.caf_words.specs.Datum.{data_of, more, no_data, count, a_list, is_in_range, are_in_range, are_bytes}
+use Rattle.caf_words.specs.Datum.{data_of, count, a_list, is_in_range, are_in_range, are_bytes}
 use Rattle.caf_index.specs.Words.{is_word_byte, lower_case, first_word, next_line, words_within}
 use Rattle.caf_index.specs.Postings.{stopped, words_from, posting_cmp, put_once, sorted_once, postings_of}
 use Rattle.caf_index.specs.declared.posting.Posting.{Posting}

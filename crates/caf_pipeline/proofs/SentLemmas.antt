@@ -1,40 +1,35 @@
 -- The conductor of an undisturbed script sends it whole, at once.
-use Rattle.std.proofs.Common.{◌≡◌, ℕ, zero, suc, ◌+◌, Bool, true, false, List, [], ◌∷◌, ◌++◌, length, map, flat_map, Option, Some, None, refl, sym, subst, ap, ◌∙◌, arith, append_assoc}
+use Rattle.std.proofs.Common.{◌≡◌, ℕ, suc, ◌+◌, Bool, true, List, [], ◌∷◌, ◌++◌, length, map, flat_map, Option, refl, sym, subst, ap, ◌∙◌, append_assoc}
 use Rattle.std.specs.Prelude.{if◌then◌else◌}
 use Rattle.std.specs.List.{AllByRecursion}
 use Rattle.std.proofs.lemmas.List.{append-nil}
 use Rattle.std.proofs.lemmas.List.Concat.{flat_map-cons}
 use Rattle.caf_types.specs.declared.shape.TypeId.{TypeId}
-use Rattle.caf_words.specs.Datum.{Data, a_unit, more, no_data, data_of}
-use Rattle.caf_words.specs.Several.{ids_of}
+use Rattle.caf_words.specs.Datum.{data_of}
 use Rattle.caf_words.specs.Value.{datum}
 use Rattle.caf_words.specs.declared.value.Value.{Value}
 use Rattle.caf_message.specs.Content.{content_of}
-use Rattle.caf_actor.specs.PlainInput.{Start}
 use Rattle.caf_actor.specs.PlainOutput.{PlainOutput}
-use Rattle.caf_script.specs.Script.{Played, is_met, behind, play, goes_on}
+use Rattle.caf_script.specs.Script.{Played, is_met, behind, play}
 use Rattle.caf_script.specs.Step as played
 use Rattle.caf_script.specs.Step.{sent, waits_for}
 use Rattle.caf_script.specs.declared.script.Script.{Script}
-use Rattle.caf_script.specs.declared.step.Wait.{Wait}
 use Rattle.caf_script.specs.declared.step.Wait.TheVariants as wait
 use Rattle.caf_kinds.specs.Asking.{Types, type_ids, type_id}
 use Rattle.caf_kinds.specs.Collector.{asking_index, asking_totals}
 use Rattle.caf_kinds.specs.Source.{starting}
 use Rattle.caf_kinds.specs.Kinds.{interface_of}
 use Rattle.caf_signature.specs.Interface.{result_for}
-use Rattle.caf_kinds.specs.Planning.{content_for, or_none, answer_of, answer_types, planned_step, planned_from, script_of, conductor_of}
-use Rattle.caf_kinds.specs.Setups.{setup_at}
-use Rattle.caf_kinds.specs.Who.{Who}
+use Rattle.caf_kinds.specs.Planning.{content_for, or_none, answer_of, answer_types, planned_step, planned_from, script_of}
 use Rattle.caf_kinds.specs.declared.script.Step.{Step}
 use Rattle.caf_kinds.specs.declared.script.Step.TheVariants as step
 use Rattle.caf_kinds.specs.declared.setup.KindName.{KindName}
 use Rattle.caf_kinds.specs.declared.setup.KindName.TheVariants as name
 use Rattle.caf_kinds.specs.declared.setup.Setup.{Setup}
 use Rattle.caf_kinds.proofs.AskedLemmas.{typed_as}
-use Rattle.caf_pipeline.specs.Undisturbed.{Pipeline, IsSetUp, IsPipeline, IsAtom, IsTold, IsRequested, IsPlainScript, IsUndisturbed}
-use Rattle.caf_pipeline.specs.Parts.{atom_content, start_content, index_content, totals_content}
-use Rattle.caf_pipeline.specs.Sent.{summary_types, total_types, IsTell, IsRequest, AreTotals, AreSent, PlaysAll, UndisturbedScriptIsSent}
+use Rattle.caf_pipeline.specs.Undisturbed.{Pipeline, IsSetUp, IsPipeline, IsAtom, IsTold, IsRequested, IsPlainScript}
+use Rattle.caf_pipeline.specs.Parts.{atom_content, start_content}
+use Rattle.caf_pipeline.specs.Sent.{summary_types, total_types, IsTell, IsRequest, AreTotals, AreSent, UndisturbedScriptIsSent}
 
 -- ---- a plan that never waits is played to its end
 

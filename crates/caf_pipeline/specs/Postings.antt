@@ -1,5 +1,5 @@
 -- The postings of a chunk are no larger than a message.
-use Rattle.std.specs.Prelude.{ℕ, ◌≤◌, length}
+use Rattle.std.specs.Prelude.{◌≤◌, length}
 use Rattle.caf_kinds.specs.Counter.{postings_at}
 use Rattle.caf_kinds.specs.Pipeline.{postings_content}
 use Rattle.caf_kinds.specs.declared.contents.Chunk.{Chunk}

@@ -2,11 +2,10 @@
 use Rattle.std.specs.Prelude.{◌≡◌, ℕ, ◌<◌, ◌≤◌, true, List, [], ◌∷◌, length, map, Some, Contains}
 use Rattle.std.specs.List.{AllByRecursion}
 use Rattle.caf_types.specs.declared.shape.TypeId.{TypeId}
-use Rattle.caf_words.specs.Datum.{Data, a_unit, more, no_data, data_of}
+use Rattle.caf_words.specs.Datum.{a_unit, more, no_data, data_of}
 use Rattle.caf_words.specs.Several.{ids_of}
 use Rattle.caf_words.specs.Value.{datum}
 use Rattle.caf_words.specs.declared.value.Value.{Value}
-use Rattle.caf_response.specs.declared.pending.Mode.{Mode}
 use Rattle.caf_response.specs.declared.pending.Mode.TheVariants.{Multiplexed}
 use Rattle.caf_kinds.specs.Asking.{Types, type_ids}
 use Rattle.caf_kinds.specs.Collector.{asking_index, asking_totals}
