@@ -7,3 +7,4 @@ pub mod PostingsLemmas
 pub mod RangeLemmas
 pub mod PartLemmas
 pub mod SentLemmas
+pub mod ClassLemmas

@@ -3,3 +3,4 @@ pub mod BuiltIn
 pub mod Postings
 pub mod Parts
 pub mod Sent
+pub mod Contents
