@@ -8,3 +8,8 @@ pub mod RangeLemmas
 pub mod PartLemmas
 pub mod SentLemmas
 pub mod ClassLemmas
+pub mod TellerLemmas
+pub mod CollectorLemmas
+pub mod SourceLemmas
+pub mod ConductorLemmas
+pub mod BeginLemmas

@@ -65,17 +65,17 @@ answered setups kind peers to is atom types values a =
     ∙ ap (λ (ts : List TypeId). or_none (result_for (interface_of kind) ts)) (typed_as types (type_ids atom) a.ids)
 
 -- the step never waits, and sends one thing, of which that holds
-record Sends (P : PlainOutput → Type 0) (step : played.Step) : Type 0 where
+pub record Sends (P : PlainOutput → Type 0) (step : played.Step) : Type 0 where
   pub never : waits_for step ≡ wait.Nothing
   pub output : PlainOutput
   pub sent_is : sent step ≡ output ∷ []
   pub holds : P output
 
-told_sends : (setups : List Setup) (n to : ℕ) (s : Step) → IsTold to starting s → Sends (IsTell to start_content) (planned_step setups n s)
+pub told_sends : (setups : List Setup) (n to : ℕ) (s : Step) → IsTold to starting s → Sends (IsTell to start_content) (planned_step setups n s)
 told_sends setups n to (step.Tell place priority types values) is = record { never = refl; output = _; sent_is = refl; holds = (is.0, said starting types values is.1) }
 told_sends setups n to _ is = absurd is
 
-requested_sends : (setups : List Setup) (n : ℕ) (p : Pipeline) → IsPipeline setups p → (atom : Types) (types : List TypeId) → or_none (result_for (interface_of name.Collector) (map type_id (type_ids atom))) ≡ types
+pub requested_sends : (setups : List Setup) (n : ℕ) (p : Pipeline) → IsPipeline setups p → (atom : Types) (types : List TypeId) → or_none (result_for (interface_of name.Collector) (map type_id (type_ids atom))) ≡ types
     → (s : Step) → IsRequested p.collector atom s → Sends (IsRequest p.collector n types (atom_content atom)) (planned_step setups n s)
 requested_sends setups n p is atom types e (step.Request place priority mode asked values) r = record {
   never = refl;
