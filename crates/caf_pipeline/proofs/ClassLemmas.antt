@@ -1,30 +1,25 @@
 -- How one shows that an actor of a pipeline keeps to what may come: by what stays true of its value.
-use Rattle.std.proofs.Common.{◌≡◌, ℕ, ◌==◌, ◌&&◌, Bool, true, false, List, [], ◌∷◌, ◌++◌, length, map, Option, Some, None, inl, inr, refl, sym, subst, ap, ◌∙◌, arith}
+use Rattle.std.proofs.Common.{◌≡◌, ℕ, ◌==◌, ◌&&◌, Bool, true, false, List, [], ◌∷◌, Option, Some, None, inl, inr, refl, sym, subst, ap, ◌∙◌}
 use Rattle.std.specs.Prelude.{◌||◌, not, bytes_eq, Contains, ◌⊎◌}
-use Rattle.std.specs.List.{AllByRecursion, list_any}
+use Rattle.std.specs.List.{AllByRecursion}
 use Rattle.std.proofs.lemmas.Slice.Eq.{bytes_eq-Decides}
 use Rattle.std.proofs.lemmas.Map.Views.{Contains-from_any}
 use Rattle.caf_carriers.proofs.CountLemmas.{same_number}
-use Rattle.caf_index.proofs.ContainsLemmas.{contains-none, contains-here, contains-later, contains-cases}
-use Rattle.caf_message.specs.Content.{ids_in}
+use Rattle.caf_index.proofs.ContainsLemmas.{contains-none, contains-cases}
 use Rattle.caf_message.specs.Envelope.{no_request}
 use Rattle.caf_types.specs.declared.notice.Priority.{Priority}
 use Rattle.caf_actor.specs.declared.origin.Origin.{Origin}
 use Rattle.caf_actor.specs.Answering.{is_asked}
 use Rattle.caf_actor.specs.PlainInput.{PlainInput, Start, Stop, Content, Response, Failed, Down, Tick}
-use Rattle.caf_actor.specs.PlainOutput.{PlainOutput}
-use Rattle.caf_actor.specs.PlainReaction.{PlainAnswer, PlainReaction}
-use Rattle.caf_actor.specs.Rules.{Rules, fed}
+use Rattle.caf_actor.specs.Rules.{fed}
 use Rattle.caf_actor.specs.Sending.{mid_of}
 use Rattle.caf_kinds.specs.Kinds.{kind_rules, reacted}
 use Rattle.caf_kinds.specs.Reacting.{Reacted}
-use Rattle.caf_kinds.specs.Setups.{setup_at}
 use Rattle.caf_kinds.specs.declared.contents.Chunk.{Chunk}
 use Rattle.caf_kinds.specs.declared.kind.Kind.{Kind}
 use Rattle.caf_kinds.specs.declared.setup.KindName.{KindName}
-use Rattle.caf_kinds.specs.declared.setup.KindName.TheVariants as name
 use Rattle.caf_kinds.specs.declared.setup.Setup.{Setup}
-use Rattle.caf_steady.specs.Classes.{origin_from, MayTell, MaySend, MayAnswer, MayReply, MayReplyTo, IsTaken, KeepsClasses, AlwaysKeeps}
+use Rattle.caf_steady.specs.Classes.{origin_from, MayTell, MaySend, MayAnswer, MayReplyTo, IsTaken, AlwaysKeeps}
 use Rattle.caf_pipeline.specs.Undisturbed.{IsSetUp}
 use Rattle.caf_pipeline.specs.Contents.{told_to, asked_of, is_one_of, comes_as, comes}
 
@@ -92,11 +87,11 @@ module _ (setups : List Setup) (cs : List Chunk) where
   at_content P s kind same told asked (Content o words) e =
       elim (either_part (not (is_asked o) && is_one_of words (told_to cs s.kind)) ((o.mid.requester == 0) && is_one_of words (asked_of s.kind)) e) [
         | inl here ↦
-          (let both = both_parts (not (is_asked o)) (is_one_of words (told_to cs s.kind)) here in
-          told o words (from_not (is_asked o) both.0) (subst (λ (k : KindName). Contains (told_to cs k) words) same (one_is_contained words (told_to cs s.kind) both.1)))
+            (let both = both_parts (not (is_asked o)) (is_one_of words (told_to cs s.kind)) here in
+            told o words (from_not (is_asked o) both.0) (subst (λ (k : KindName). Contains (told_to cs k) words) same (one_is_contained words (told_to cs s.kind) both.1)))
         | inr here ↦
-          (let both = both_parts (o.mid.requester == 0) (is_one_of words (asked_of s.kind)) here in
-          asked o words (same_number o.mid.requester 0 both.0) (subst (λ (k : KindName). Contains (asked_of k) words) same (one_is_contained words (asked_of s.kind) both.1)))
+            (let both = both_parts (o.mid.requester == 0) (is_one_of words (asked_of s.kind)) here in
+            asked o words (same_number o.mid.requester 0 both.0) (subst (λ (k : KindName). Contains (asked_of k) words) same (one_is_contained words (asked_of s.kind) both.1)))
       ]
   at_content P s kind same told asked Start e = absurd cc
   at_content P s kind same told asked Stop e = absurd cc

@@ -1,5 +1,5 @@
 -- The collector keeps to what may come: it answers place 0 alone.
-use Rattle.std.proofs.Common.{◌≡◌, ℕ, zero, suc, ◌<◌, Bool, true, false, List, [], ◌∷◌, ◌++◌, length, map, Option, Some, None, inl, inr, refl, sym, subst, ap, ◌∙◌, arith}
+use Rattle.std.proofs.Common.{◌≡◌, ℕ, Bool, true, false, List, [], ◌∷◌, ◌++◌, length, map, Option, Some, inl, inr, refl, sym, subst, ap, ◌∙◌}
 use Rattle.std.specs.Prelude.{not, Contains, if◌then◌else◌}
 use Rattle.std.specs.List.{AllByRecursion, filter}
 use Rattle.std.proofs.lemmas.List.Elements.{Contains-append_cases}
@@ -23,7 +23,6 @@ use Rattle.caf_kinds.specs.Reacting.{Reacted, answers, quiet}
 use Rattle.caf_kinds.specs.Relay.{lowered}
 use Rattle.caf_kinds.specs.Setups.{setup_at}
 use Rattle.caf_kinds.specs.Source.{finish_of}
-use Rattle.caf_kinds.specs.Who.{Who}
 use Rattle.caf_kinds.specs.declared.collector.Collector.{Collector}
 use Rattle.caf_kinds.specs.declared.contents.Chunk.{Chunk}
 use Rattle.caf_kinds.specs.declared.kind.Kind.{Kind}
@@ -31,12 +30,11 @@ use Rattle.caf_kinds.specs.declared.kind.Kind.TheVariants as kind
 use Rattle.caf_kinds.specs.declared.questions.HeldQuestion.{HeldQuestion}
 use Rattle.caf_kinds.specs.declared.questions.Question.{Question}
 use Rattle.caf_kinds.specs.declared.questions.Question.TheVariants as question
-use Rattle.caf_kinds.specs.declared.setup.KindName.{KindName}
 use Rattle.caf_kinds.specs.declared.setup.KindName.TheVariants as name
 use Rattle.caf_kinds.specs.declared.setup.Setup.{Setup}
 use Rattle.caf_kinds.specs.declared.tally.Tally.{Tally}
-use Rattle.caf_steady.specs.Classes.{AlwaysKeeps, MaySend, MayReplyTo}
-use Rattle.caf_pipeline.specs.Parts.{index_content, totals_content, told_postings, told_extent, told_finish}
+use Rattle.caf_steady.specs.Classes.{AlwaysKeeps, MaySend}
+use Rattle.caf_pipeline.specs.Parts.{index_content, totals_content, told_extent, told_finish}
 use Rattle.caf_pipeline.specs.Contents.{counted, told_to, asked_of, comes_as, comes}
 use Rattle.caf_pipeline.proofs.ListLemmas.{one_of}
 use Rattle.caf_pipeline.proofs.PartLemmas.{hands_on}
@@ -89,16 +87,16 @@ module _ (setups : List Setup) (cs : List Chunk) (chunks : AreChunks cs) (place 
   told_goes s o words held told has =
       elim (Contains-append_cases (map counted cs) (map told_extent cs ++ told_finish (length cs) ∷ []) words has) [
         | inl here ↦ (let from = from-map counted words cs here in
-          let c = lowered from.0 in
-          subst (λ (ws : List ℕ). Goes setups cs place Collects (kind.Collector s) (Content o ws)) from.2
-          (delivering s (with_postings s (postings_at c)) o (counted from.0) told held (hands_on.indexes s o c (hands_on.lowered_is_chunk from.0 (one_of IsChunk cs from.0 chunks from.1))) refl))
+            let c = lowered from.0 in
+            subst (λ (ws : List ℕ). Goes setups cs place Collects (kind.Collector s) (Content o ws)) from.2
+            (delivering s (with_postings s (postings_at c)) o (counted from.0) told held (hands_on.indexes s o c (hands_on.lowered_is_chunk from.0 (one_of IsChunk cs from.0 chunks from.1))) refl))
         | inr more ↦ elim (Contains-append_cases (map told_extent cs) (told_finish (length cs) ∷ []) words more) [
           | inl here ↦ (let from = from-map told_extent words cs here in
-            subst (λ (ws : List ℕ). Goes setups cs place Collects (kind.Collector s) (Content o ws)) from.2
-            (delivering s (in_tally s (with_extent s.tally (extent_of from.0))) o (told_extent from.0) told held (hands_on.adds s o from.0 (one_of IsChunk cs from.0 chunks from.1)) refl))
+              subst (λ (ws : List ℕ). Goes setups cs place Collects (kind.Collector s) (Content o ws)) from.2
+              (delivering s (in_tally s (with_extent s.tally (extent_of from.0))) o (told_extent from.0) told held (hands_on.adds s o from.0 (one_of IsChunk cs from.0 chunks from.1)) refl))
           | inr last ↦ elim (contains-cases (told_finish (length cs)) words [] last) [
             | inl is ↦ subst (λ (ws : List ℕ). Goes setups cs place Collects (kind.Collector s) (Content o ws)) is
-              (delivering s (in_tally s (with_finish s.tally (finish_of (length cs)))) o (told_finish (length cs)) told held (hands_on.finishes s o (length cs)) refl)
+                (delivering s (in_tally s (with_finish s.tally (finish_of (length cs)))) o (told_finish (length cs)) told held (hands_on.finishes s o (length cs)) refl)
             | inr none ↦ absurd (contains-none words none)
           ]
         ]

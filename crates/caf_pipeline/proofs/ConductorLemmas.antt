@@ -1,5 +1,5 @@
 -- The conductor of an undisturbed script keeps to what may come.
-use Rattle.std.proofs.Common.{◌≡◌, ℕ, zero, suc, ◌+◌, Bool, true, false, List, [], ◌∷◌, ◌++◌, map, flat_map, Option, Some, None, refl, sym, subst, ap, ◌∙◌}
+use Rattle.std.proofs.Common.{◌≡◌, ℕ, ◌+◌, true, List, [], ◌∷◌, flat_map, Option, Some, None, refl, sym, subst, ap, ◌∙◌}
 use Rattle.std.specs.Prelude.{Contains}
 use Rattle.std.specs.List.{AllByRecursion}
 use Rattle.std.proofs.lemmas.List.Concat.{flat_map-cons}
@@ -21,6 +21,7 @@ use Rattle.caf_kinds.specs.Collector.{asking_index, asking_totals}
 use Rattle.caf_kinds.specs.Conductor.{Conducting, plays}
 use Rattle.caf_kinds.specs.Kinds.{kind_rules, reacted, as_kind}
 use Rattle.caf_kinds.specs.Planning.{planned_from, conductor_of}
+use Rattle.caf_kinds.specs.Source.{more_content}
 use Rattle.caf_kinds.specs.Who.{Who}
 use Rattle.caf_kinds.specs.declared.contents.Chunk.{Chunk}
 use Rattle.caf_kinds.specs.declared.kind.Kind.{Kind}
@@ -32,7 +33,7 @@ use Rattle.caf_steady.specs.Classes.{AlwaysKeeps, IsTaken, MaySend, MayReplyTo}
 use Rattle.caf_pipeline.specs.Undisturbed.{Pipeline, IsPipeline, IsRequested, IsPlainScript}
 use Rattle.caf_pipeline.specs.Parts.{start_content, index_content, totals_content}
 use Rattle.caf_pipeline.specs.Sent.{summary_types, total_types, IsTell, IsRequest}
-use Rattle.caf_pipeline.specs.Contents.{told_to, asked_of, comes}
+use Rattle.caf_pipeline.specs.Contents.{asked_of, comes}
 use Rattle.caf_pipeline.proofs.ClassLemmas.{told_comes, asked_comes, Goes, goes_as, always_keeps}
 use Rattle.caf_pipeline.proofs.SentLemmas.{Sends, told_sends, requested_sends}
 
@@ -49,7 +50,7 @@ module _ (setups : List Setup) (cs : List Chunk) (p : Pipeline) (are : IsPipelin
   tell_may (Tell to priority words) is =
       subst (λ (q : ℕ). May (Tell q priority words)) (sym is.0)
       (subst (λ (ws : List ℕ). May (Tell p.source priority ws)) (sym is.1)
-      (told_comes setups cs name.Source (p.lines ∷ p.relay ∷ p.collector ∷ []) p.source 0 priority start_content are.source (contains-here start_content _)))
+      (told_comes setups cs name.Source (p.lines ∷ p.relay ∷ p.collector ∷ []) p.source 0 priority start_content are.source (contains-here start_content (more_content ∷ []))))
   tell_may _ is = absurd is
 
   request_may : (n : ℕ) (types : List TypeId) (words : List ℕ) → Contains (asked_of name.Collector) words → (o : PlainOutput) → IsRequest p.collector n types words o → May o
@@ -66,7 +67,7 @@ module _ (setups : List Setup) (cs : List Chunk) (p : Pipeline) (are : IsPipelin
   totals_may n [] all = tt
   totals_may n (s ∷ steps) all = (
     one_may (IsRequest p.collector n total_types totals_content) _ (request_may n total_types totals_content (contains-later index_content totals_content (totals_content ∷ []) (contains-here totals_content [])))
-    (requested_sends setups n p are asking_totals total_types refl s all.0),
+        (requested_sends setups n p are asking_totals total_types refl s all.0),
     totals_may (n + 1) steps all.1,
   )
 
@@ -75,8 +76,10 @@ module _ (setups : List Setup) (cs : List Chunk) (p : Pipeline) (are : IsPipelin
   script_may (first ∷ []) is = absurd is
   script_may (first ∷ second ∷ others) is = (
     one_may (IsTell p.source start_content) _ tell_may (told_sends setups 1 p.source first is.0),
-    (one_may (IsRequest p.collector 2 summary_types index_content) _ (request_may 2 summary_types index_content (contains-here index_content _)) (requested_sends setups 2 p are asking_index summary_types refl second is.1),
-    totals_may 3 others is.2),
+    (
+      one_may (IsRequest p.collector 2 summary_types index_content) _ (request_may 2 summary_types index_content (contains-here index_content (totals_content ∷ []))) (requested_sends setups 2 p are asking_index summary_types refl second is.1),
+      totals_may 3 others is.2,
+    ),
   )
 
   -- ---- playing them

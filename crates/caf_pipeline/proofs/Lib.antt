@@ -12,4 +12,5 @@ pub mod TellerLemmas
 pub mod CollectorLemmas
 pub mod SourceLemmas
 pub mod ConductorLemmas
+pub mod OpeningLemmas
 pub mod BeginLemmas

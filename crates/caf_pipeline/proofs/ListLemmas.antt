@@ -25,3 +25,9 @@ pub got_within : {A : Type 0} (xs : List A) (k : ℕ) (x : A) → slice_get xs k
 got_within [] k x e = absurd cc
 got_within (y ∷ ys) zero x e = omega arith
 got_within (y ∷ ys) (suc k) x e = let rest = got_within ys k x e in omega (arith, rest)
+
+-- what stands there
+pub got_at : {A : Type 0} (xs : List A) (k : ℕ) → k < length xs → (x : A) × (slice_get xs k ≡ Some x)
+got_at [] k low = absurd (omega (arith, low))
+got_at (x ∷ xs) zero low = (x, refl)
+got_at (x ∷ xs) (suc k) low = got_at xs k (omega (arith, low))

@@ -1,35 +1,33 @@
 -- The source keeps to what may come.
-use Rattle.std.proofs.Common.{◌≡◌, ℕ, zero, suc, ◌-◌, ◌<◌, Bool, true, false, List, [], ◌∷◌, ◌++◌, length, map, flat_map, take, drop, Option, Some, None, inl, inr, refl, sym, subst, ap, ◌∙◌, arith}
+use Rattle.std.proofs.Common.{◌≡◌, ℕ, zero, suc, ◌-◌, true, false, List, [], ◌∷◌, length, map, take, drop, Option, Some, inl, inr, refl, sym, subst, ap, ◌∙◌}
 use Rattle.std.specs.Prelude.{slice_get, Contains}
 use Rattle.std.specs.List.{AllByRecursion}
 use Rattle.caf_types.specs.declared.notice.Priority.TheVariants as priority
 use Rattle.caf_index.proofs.ContainsLemmas.{contains-none, contains-here, contains-later, contains-cases, contains-map}
 use Rattle.caf_mailbox.proofs.NextLemmas.{all_append}
-use Rattle.caf_message.specs.Content.{ids_in}
 use Rattle.caf_actor.specs.declared.origin.Origin.{Origin}
 use Rattle.caf_actor.specs.Answering.{is_asked}
-use Rattle.caf_actor.specs.PlainInput.{PlainInput, Start, Stop, Content, Response, Failed, Down, Tick}
+use Rattle.caf_actor.specs.PlainInput.{PlainInput, Content}
 use Rattle.caf_actor.specs.PlainOutput.{PlainOutput}
 use Rattle.caf_actor.specs.PlainOutput as output
 use Rattle.caf_kinds.specs.FileChunks.{AreChunks}
-use Rattle.caf_kinds.specs.Kinds.{kind_rules, reacted, as_kind}
-use Rattle.caf_kinds.specs.Pipeline.{chunk_content, finish_content, to_peer, sends}
+use Rattle.caf_kinds.specs.Kinds.{kind_rules, as_kind}
+use Rattle.caf_kinds.specs.Pipeline.{chunk_content, finish_content, to_peer}
 use Rattle.caf_kinds.specs.Reacting.{answers, done}
 use Rattle.caf_kinds.specs.Setups.{setup_at}
-use Rattle.caf_kinds.specs.Source.{Sourced, more_content, tells_all, tells_itself, follows, finish_of, next_chunks, chunks_left, stage_with, goes_on, on_start, on_more, takers, last_peer, going_on}
+use Rattle.caf_kinds.specs.Source.{Sourced, more_content, tells_all, tells_itself, follows, finish_of, next_chunks, chunks_left, goes_on, on_start, on_more, last_peer}
 use Rattle.caf_kinds.specs.Who.{Who}
 use Rattle.caf_kinds.specs.declared.contents.Chunk.{Chunk}
 use Rattle.caf_kinds.specs.declared.kind.Kind.{Kind}
 use Rattle.caf_kinds.specs.declared.kind.Kind.TheVariants as kind
-use Rattle.caf_kinds.specs.declared.setup.KindName.{KindName}
 use Rattle.caf_kinds.specs.declared.setup.KindName.TheVariants as name
 use Rattle.caf_kinds.specs.declared.setup.Setup.{Setup}
 use Rattle.caf_kinds.specs.declared.source.Stage.{Stage}
 use Rattle.caf_kinds.specs.declared.source.Stage.TheVariants as stage
 use Rattle.caf_steady.specs.Classes.{AlwaysKeeps, MaySend}
-use Rattle.caf_pipeline.specs.Undisturbed.{Pipeline, IsSetUp, IsPipeline}
+use Rattle.caf_pipeline.specs.Undisturbed.{Pipeline, IsPipeline}
 use Rattle.caf_pipeline.specs.Parts.{start_content, told_finish}
-use Rattle.caf_pipeline.specs.Contents.{told_to, asked_of, comes_as, comes}
+use Rattle.caf_pipeline.specs.Contents.{told_to, comes_as, comes}
 use Rattle.caf_pipeline.proofs.ClassLemmas.{told_comes, at_content, Goes, goes_as, always_keeps}
 use Rattle.caf_pipeline.proofs.TellerLemmas.{finish_comes}
 
@@ -70,9 +68,10 @@ module _ (setups : List Setup) (cs : List Chunk) (p : Pipeline) (are : IsPipelin
     chunk_may : (s : Sourced) (c : Chunk) → s.identity ≡ who → Contains cs c → May (tells_all s c)
     chunk_may s c same has =
         let all : s.identity.peers ≡ p.lines ∷ p.relay ∷ p.collector ∷ [] = ap (λ (w : Who). w.peers) same ∙ peers in
-        subst (λ (ps : List ℕ). May (output.TellMany (take (length ps - 1) ps) priority.Normal (chunk_content c))) (sym all)
-        (told_comes setups cs name.Lines (p.collector ∷ []) p.lines place priority.Normal (chunk_content c) are.lines (contains-map chunk_content c cs has),
-        (told_comes setups cs name.Relay p.counters p.relay place priority.Normal (chunk_content c) are.relay (contains-map chunk_content c cs has), tt))
+        subst (λ (ps : List ℕ). May (output.TellMany (take (length ps - 1) ps) priority.Normal (chunk_content c))) (sym all) (
+          told_comes setups cs name.Lines (p.collector ∷ []) p.lines place priority.Normal (chunk_content c) are.lines (contains-map chunk_content c cs has),
+          (told_comes setups cs name.Relay p.counters p.relay place priority.Normal (chunk_content c) are.relay (contains-map chunk_content c cs has), tt),
+        )
 
     chunks_may : (s : Sourced) (ds : List Chunk) → s.identity ≡ who → ((c : Chunk) → Contains ds c → Contains cs c) → AllByRecursion May (map (tells_all s) ds)
     chunks_may s [] same into = tt

@@ -1,20 +1,16 @@
 -- Lines, relays and counters keep to what may come: each chunk makes them tell one thing to one peer.
-use Rattle.std.proofs.Common.{◌≡◌, ℕ, zero, suc, ◌<◌, Bool, true, false, List, [], ◌∷◌, ◌++◌, length, map, Option, Some, None, inl, inr, refl, sym, subst, ap, ◌∙◌, arith}
+use Rattle.std.proofs.Common.{◌≡◌, ℕ, zero, suc, ◌<◌, true, false, List, [], ◌∷◌, ◌++◌, length, map, Option, Some, refl, sym, subst, ap, ◌∙◌, arith}
 use Rattle.std.specs.Prelude.{◌%◌, slice_get, Contains}
-use Rattle.std.specs.List.{AllByRecursion}
 use Rattle.std.proofs.lemmas.List.Elements.{Contains-append_left, Contains-append_right}
 use Rattle.caf_types.specs.declared.notice.Priority.TheVariants as priority
 use Rattle.caf_index.proofs.ContainsLemmas.{contains-none, contains-here, contains-later, contains-map, from-map}
-use Rattle.caf_message.specs.Content.{ids_in}
 use Rattle.caf_actor.specs.declared.origin.Origin.{Origin}
 use Rattle.caf_actor.specs.Answering.{is_asked}
 use Rattle.caf_actor.specs.PlainInput.{PlainInput, Content}
 use Rattle.caf_actor.specs.PlainOutput.{Tell}
-use Rattle.caf_actor.specs.Rules.{is_input}
 use Rattle.caf_kinds.specs.FileChunks.{IsChunk, AreChunks}
-use Rattle.caf_kinds.specs.Kinds.{kind_rules, reacted, interface}
+use Rattle.caf_kinds.specs.Kinds.{kind_rules}
 use Rattle.caf_kinds.specs.Pipeline.{chunk_content, sends}
-use Rattle.caf_kinds.specs.Reacting.{done}
 use Rattle.caf_kinds.specs.Relay.{lowered, peer_for}
 use Rattle.caf_kinds.specs.Setups.{setup_at}
 use Rattle.caf_kinds.specs.Who.{Who}
@@ -24,13 +20,12 @@ use Rattle.caf_kinds.specs.declared.kind.Kind.{Kind}
 use Rattle.caf_kinds.specs.declared.kind.Kind.TheVariants as kind
 use Rattle.caf_kinds.specs.declared.lines.Lines.{Lines}
 use Rattle.caf_kinds.specs.declared.relay.Relay.{Relay}
-use Rattle.caf_kinds.specs.declared.setup.KindName.{KindName}
 use Rattle.caf_kinds.specs.declared.setup.KindName.TheVariants as name
 use Rattle.caf_kinds.specs.declared.setup.Setup.{Setup}
-use Rattle.caf_steady.specs.Classes.{AlwaysKeeps, MayReplyTo}
+use Rattle.caf_steady.specs.Classes.{AlwaysKeeps}
 use Rattle.caf_pipeline.specs.Undisturbed.{Pipeline, IsSetUp, IsPipeline}
-use Rattle.caf_pipeline.specs.Parts.{told_postings, told_extent, told_finish}
-use Rattle.caf_pipeline.specs.Contents.{relayed, counted, told_to, asked_of, comes_as, comes}
+use Rattle.caf_pipeline.specs.Parts.{told_extent, told_finish}
+use Rattle.caf_pipeline.specs.Contents.{relayed, counted, told_to, comes_as, comes}
 use Rattle.caf_pipeline.proofs.ListLemmas.{one_of}
 use Rattle.caf_pipeline.proofs.PartLemmas.{hands_on}
 use Rattle.caf_pipeline.proofs.ClassLemmas.{told_comes, at_content, Goes, goes_as, always_keeps}

@@ -1,5 +1,6 @@
 //! The laws of undisturbed runs. A law is the contract of a function that does nothing.
 ghost use Rattle.caf_pipeline.specs.BuiltIn.{BuiltInIsUndisturbed};
+ghost use Rattle.caf_pipeline.specs.Contents.{PartsTakeTheirContents};
 ghost use Rattle.caf_pipeline.specs.Parts.{PartsHandOn};
 ghost use Rattle.caf_pipeline.specs.Postings.{PostingsFitAMessage};
 ghost use Rattle.caf_pipeline.specs.Sent.{UndisturbedScriptIsSent};
@@ -29,4 +30,11 @@ pub fn parts_hand_on()
 /// The conductor of an undisturbed script sends the script's messages and no others, all of them at Start.
 pub fn undisturbed_script_is_sent()
     ensures { UndisturbedScriptIsSent }
+{}
+
+/// In a legal record over the opening of an undisturbed run, in which no tick and no Stop was taken, each place took
+/// only the contents that the pipeline tells it: so the postings and extents that the collector took are those of
+/// chunks of the files.
+pub fn parts_take_their_contents()
+    ensures { PartsTakeTheirContents }
 {}
