@@ -14,3 +14,4 @@ pub mod SourceLemmas
 pub mod ConductorLemmas
 pub mod OpeningLemmas
 pub mod BeginLemmas
+pub mod ReadLemmas
