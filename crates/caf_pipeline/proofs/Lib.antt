@@ -15,3 +15,5 @@ pub mod ConductorLemmas
 pub mod OpeningLemmas
 pub mod BeginLemmas
 pub mod ReadLemmas
+pub mod ArrivalLemmas
+pub mod FlowLemmas

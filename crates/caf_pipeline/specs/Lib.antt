@@ -4,3 +4,4 @@ pub mod Postings
 pub mod Parts
 pub mod Sent
 pub mod Contents
+pub mod Flow
