@@ -112,7 +112,7 @@ module _ (setups : List Setup) (cs : List Chunk) (chunks : AreChunks cs) (place 
         ]
       ]
 
-  collector_goes : (s : Setup) → s.kind ≡ name.Collector → (b : Kind) (i : PlainInput) → Collects b → comes_as cs (Some s) i ≡ true → Goes setups cs place Collects b i
+  pub collector_goes : (s : Setup) → s.kind ≡ name.Collector → (b : Kind) (i : PlainInput) → Collects b → comes_as cs (Some s) i ≡ true → Goes setups cs place Collects b i
   collector_goes s is b i inv e =
       subst (λ (k : Kind). Goes setups cs place Collects k i) (sym inv.is)
       (at_content setups cs (Goes setups cs place Collects (kind.Collector inv.collector)) s name.Collector is

@@ -17,3 +17,5 @@ pub mod BeginLemmas
 pub mod ReadLemmas
 pub mod ArrivalLemmas
 pub mod FlowLemmas
+pub mod StartLemmas
+pub mod CollectedLemmas

@@ -123,7 +123,7 @@ module _ (setups : List Setup) (cs : List Chunk) (p : Pipeline) (are : IsPipelin
           ]
         ]
 
-    source_goes : (s : Setup) → s.kind ≡ name.Source → (b : Kind) (i : PlainInput) → SourcesFor who b → comes_as cs (Some s) i ≡ true → Goes setups cs place (SourcesFor who) b i
+    pub source_goes : (s : Setup) → s.kind ≡ name.Source → (b : Kind) (i : PlainInput) → SourcesFor who b → comes_as cs (Some s) i ≡ true → Goes setups cs place (SourcesFor who) b i
     source_goes s is b i inv e =
         subst (λ (k : Kind). Goes setups cs place (SourcesFor who) k i) (sym inv.is)
         (at_content setups cs (Goes setups cs place (SourcesFor who) (kind.Source inv.source)) s name.Source is

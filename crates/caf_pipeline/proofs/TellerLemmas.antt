@@ -52,10 +52,10 @@ module _ (setups : List Setup) (cs : List Chunk) (p : Pipeline) (are : IsPipelin
 
   -- ---- lines
 
-  abbrev MeasuresFor : Who → Kind → Type 0
+  abbrev pub MeasuresFor : Who → Kind → Type 0
   MeasuresFor who b = b ≡ kind.Lines (record { identity = who })
 
-  lines_goes : (place : ℕ) (who : Who) (s : Setup) → who.peers ≡ p.collector ∷ [] → s.kind ≡ name.Lines → (b : Kind) (i : PlainInput) → MeasuresFor who b → comes_as cs (Some s) i ≡ true
+  pub lines_goes : (place : ℕ) (who : Who) (s : Setup) → who.peers ≡ p.collector ∷ [] → s.kind ≡ name.Lines → (b : Kind) (i : PlainInput) → MeasuresFor who b → comes_as cs (Some s) i ≡ true
       → Goes setups cs place (MeasuresFor who) b i
   lines_goes place who s peers is b i inv e =
       subst (λ (k : Kind). Goes setups cs place (MeasuresFor who) k i) (sym inv)
@@ -83,15 +83,15 @@ module _ (setups : List Setup) (cs : List Chunk) (p : Pipeline) (are : IsPipelin
 
   -- ---- the relay
 
-  abbrev RelaysFor : Who → Kind → Type 0
+  abbrev pub RelaysFor : Who → Kind → Type 0
   RelaysFor who b = b ≡ kind.Relay (record { identity = who })
 
-  got : (xs : List ℕ) (k : ℕ) → k < length xs → (x : ℕ) × (slice_get xs k ≡ Some x) × Contains xs x
+  pub got : (xs : List ℕ) (k : ℕ) → k < length xs → (x : ℕ) × (slice_get xs k ≡ Some x) × Contains xs x
   got [] k low = absurd (omega (arith, low))
   got (x ∷ xs) zero low = (x, refl, contains-here x xs)
   got (x ∷ xs) (suc k) low = let rest = got xs k (omega (arith, low)) in (rest.0, rest.1, contains-later x rest.0 xs rest.2)
 
-  relay_goes : (place : ℕ) (who : Who) (s : Setup) → who.peers ≡ p.counters → s.kind ≡ name.Relay → (b : Kind) (i : PlainInput) → RelaysFor who b → comes_as cs (Some s) i ≡ true
+  pub relay_goes : (place : ℕ) (who : Who) (s : Setup) → who.peers ≡ p.counters → s.kind ≡ name.Relay → (b : Kind) (i : PlainInput) → RelaysFor who b → comes_as cs (Some s) i ≡ true
       → Goes setups cs place (RelaysFor who) b i
   relay_goes place who s peers is b i inv e =
       subst (λ (k : Kind). Goes setups cs place (RelaysFor who) k i) (sym inv)
@@ -126,7 +126,7 @@ module _ (setups : List Setup) (cs : List Chunk) (p : Pipeline) (are : IsPipelin
     pub count : ℕ
     pub is : b ≡ kind.Counter (record { identity = who; count = count })
 
-  counter_goes : (place : ℕ) (who : Who) (s : Setup) → who.peers ≡ p.collector ∷ [] → s.kind ≡ name.Counter → (b : Kind) (i : PlainInput) → CountsFor who b → comes_as cs (Some s) i ≡ true
+  pub counter_goes : (place : ℕ) (who : Who) (s : Setup) → who.peers ≡ p.collector ∷ [] → s.kind ≡ name.Counter → (b : Kind) (i : PlainInput) → CountsFor who b → comes_as cs (Some s) i ≡ true
       → Goes setups cs place (CountsFor who) b i
   counter_goes place who s peers is b i inv e =
       subst (λ (k : Kind). Goes setups cs place (CountsFor who) k i) (sym inv.is)

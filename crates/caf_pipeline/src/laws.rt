@@ -1,6 +1,7 @@
 //! The laws of undisturbed runs. A law is the contract of a function that does nothing.
 ghost use Rattle.caf_pipeline.specs.BuiltIn.{BuiltInIsUndisturbed};
 ghost use Rattle.caf_pipeline.specs.Contents.{PartsTakeTheirContents};
+ghost use Rattle.caf_pipeline.specs.Flow.{RelayedChunksAreCollected};
 ghost use Rattle.caf_pipeline.specs.Parts.{PartsHandOn};
 ghost use Rattle.caf_pipeline.specs.Postings.{PostingsFitAMessage};
 ghost use Rattle.caf_pipeline.specs.Sent.{UndisturbedScriptIsSent};
@@ -37,4 +38,10 @@ pub fn undisturbed_script_is_sent()
 /// chunks of the files.
 pub fn parts_take_their_contents()
     ensures { PartsTakeTheirContents }
+{}
+
+/// Where such a record is at rest, each chunk that the relay took came to the collector as its postings, through some
+/// counter, and each that lines took came to it as its extent: none is lost on the way.
+pub fn relayed_chunks_are_collected()
+    ensures { RelayedChunksAreCollected }
 {}
