@@ -67,7 +67,7 @@ brings_content cs s e brings = go e.body refl brings
 
 module _ (setups : List Setup) (cs : List Chunk) (place : ℕ) (s : Setup) (there : setup_at setups place ≡ Some s) (Inv : Kind → Type 0)
     (goes : (b : Kind) (i : PlainInput) → Inv b → comes setups cs place i ≡ true → Goes setups cs place Inv b i) where
-  as_content : (e : Taken) → Brings (comes setups cs place) e → BringsContent (comes setups cs place) e
+  pub as_content : (e : Taken) → Brings (comes setups cs place) e → BringsContent (comes setups cs place) e
   as_content e brings =
       subst (λ (o : Option Setup). BringsContent (comes_as cs o) e) (sym there) (brings_content cs s e (subst (λ (o : Option Setup). Brings (comes_as cs o) e) there brings))
 

@@ -19,3 +19,6 @@ pub mod ArrivalLemmas
 pub mod FlowLemmas
 pub mod StartLemmas
 pub mod CollectedLemmas
+pub mod ChunkLemmas
+pub mod EntryLemmas
+pub mod IndexedLemmas

@@ -66,14 +66,14 @@ items_back : (items : List Item) → items_in (data_of (map item_means items)) �
 items_back [] = refl
 items_back (i ∷ items) = ap (λ (is : List Item). i ∷ is) (items_back items)
 
-postings_back : (c : Chunk) → IsChunk c → postings_in (asked of_postings (told_postings c)) ≡ Some (postings_at c)
+pub postings_back : (c : Chunk) → IsChunk c → postings_in (asked of_postings (told_postings c)) ≡ Some (postings_at c)
 postings_back c is =
     let p = postings_at c in
     let fit : several_fit (type_shapes of_postings) (more (postings_means p) no_data) ≡ true = both_hold (both_hold (list_fits item item_means (λ it. refl) p.items) refl) refl in
     ap postings_in (asked_back of_postings (more (postings_means p) no_data) refl fit (both_true (is_in_range (postings_means p)) true (postings_range c (has_ranges c is.range)) refl))
     ∙ ap (λ (items : List Item). Some (record { file = c.file; items = items })) (items_back p.items)
 
-extent_back : (c : Chunk) → IsChunk c → extent_in (asked of_extent (told_extent c)) ≡ Some (extent_of c)
+pub extent_back : (c : Chunk) → IsChunk c → extent_in (asked of_extent (told_extent c)) ≡ Some (extent_of c)
 extent_back c is =
     let h = has_ranges c is.range in
     let few = few_lines c.bytes in

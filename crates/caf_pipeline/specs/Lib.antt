@@ -5,3 +5,4 @@ pub mod Parts
 pub mod Sent
 pub mod Contents
 pub mod Flow
+pub mod Indexed

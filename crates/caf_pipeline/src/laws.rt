@@ -2,6 +2,7 @@
 ghost use Rattle.caf_pipeline.specs.BuiltIn.{BuiltInIsUndisturbed};
 ghost use Rattle.caf_pipeline.specs.Contents.{PartsTakeTheirContents};
 ghost use Rattle.caf_pipeline.specs.Flow.{RelayedChunksAreCollected};
+ghost use Rattle.caf_pipeline.specs.Indexed.{RelayedFilesAreIndexed};
 ghost use Rattle.caf_pipeline.specs.Parts.{PartsHandOn};
 ghost use Rattle.caf_pipeline.specs.Postings.{PostingsFitAMessage};
 ghost use Rattle.caf_pipeline.specs.Sent.{UndisturbedScriptIsSent};
@@ -44,4 +45,10 @@ pub fn parts_take_their_contents()
 /// counter, and each that lines took came to it as its extent: none is lost on the way.
 pub fn relayed_chunks_are_collected()
     ensures { RelayedChunksAreCollected }
+{}
+
+/// Where such a record is at rest and the relay took all chunks of the files, the collector's index is the plain index
+/// of the files, whatever the order in which anything was taken.
+pub fn relayed_files_are_indexed()
+    ensures { RelayedFilesAreIndexed }
 {}
