@@ -1,17 +1,16 @@
 -- In a record at rest what a place sent was taken.
-use Rattle.std.proofs.Common.{◌≡◌, ℕ, ◌==◌, Bool, true, false, List, [], ◌∷◌, ◌++◌, length, drop, map, inl, inr, refl, sym, subst, ap, ◌∙◌}
+use Rattle.std.proofs.Common.{◌≡◌, ℕ, ◌==◌, Bool, true, false, List, [], ◌∷◌, ◌++◌, length, drop, inl, inr, refl, sym, subst, ap, ◌∙◌}
 use Rattle.std.specs.Prelude.{Contains, not, filter, ◌⊎◌, if◌then◌else◌}
 use Rattle.std.proofs.Math.Seq.{drop-append_seam}
 use Rattle.std.proofs.lemmas.List.{append-nil}
 use Rattle.std.proofs.lemmas.List.Elements.{Contains-append_left, Contains-append_right, Contains-append_cases}
-use Rattle.caf_index.proofs.ContainsLemmas.{contains-none, contains-here, contains-later, contains-cases, from-map}
+use Rattle.caf_index.proofs.ContainsLemmas.{contains-none, contains-here, contains-later, contains-cases}
 use Rattle.caf_mailbox.specs.Caches.{is_urgent, is_normal}
 use Rattle.caf_message.specs.declared.envelope.Taken.{Taken}
 use Rattle.caf_record.proofs.ListLemmas.{self_equal}
 use Rattle.caf_actor.specs.PlainPost.{PlainPost}
 use Rattle.caf_actor.specs.Record.{Machine, Kept, IsLegal, IsAtRest, from_place, to_place, joined, posted, sent, taken_by, sent_by, outside_sends}
 use Rattle.caf_actor.specs.declared.journal.TakenBatch.{TakenBatch}
-use Rattle.caf_steady.specs.Outline.{Bare, bare}
 use Rattle.caf_steady.specs.Reading.{in_turn, all_in_turn}
 
 -- ---- what comes from a place

@@ -1,5 +1,5 @@
 -- The chunks of all files: each is one of a file, and each one of a file is among them.
-use Rattle.std.proofs.Common.{◌≡◌, ℕ, zero, suc, ◌+◌, ◌<◌, List, [], ◌∷◌, ◌++◌, length, Some, inl, inr, refl, sym, subst, ap, ◌∙◌, arith}
+use Rattle.std.proofs.Common.{◌≡◌, ℕ, zero, suc, ◌+◌, List, [], ◌∷◌, length, Some, inl, inr, refl, sym, subst, ap, arith}
 use Rattle.std.specs.Prelude.{slice_get, Contains}
 use Rattle.std.proofs.lemmas.List.Elements.{Contains-append_left, Contains-append_right, Contains-append_cases}
 use Rattle.caf_index.specs.Chunks.{chunks_of, chunk_bytes}
@@ -22,7 +22,7 @@ of_numbered file number bytes [] c has = absurd (contains-none c has)
 of_numbered file number bytes (span ∷ spans) c has = elim (contains-cases (chunk_at file number bytes span) c (chunks_numbered file (number + 1) bytes spans) has) [
   | inl is ↦ record { span = span; there = contains-here span spans; file_is = sym (ap (λ (d : Chunk). d.file) is); line_is = sym (ap (λ (d : Chunk). d.line) is); bytes_are = sym (ap (λ (d : Chunk). d.bytes) is) }
   | inr later ↦ (let rest = of_numbered file (number + 1) bytes spans c later in
-    record { span = rest.span; there = contains-later span rest.span spans rest.there; file_is = rest.file_is; line_is = rest.line_is; bytes_are = rest.bytes_are })
+      record { span = rest.span; there = contains-later span rest.span spans rest.there; file_is = rest.file_is; line_is = rest.line_is; bytes_are = rest.bytes_are })
 ]
 
 is_numbered : (file number : ℕ) (bytes : List ℕ) (spans : List Span) (span : Span) → Contains spans span → (n : ℕ) × Contains (chunks_numbered file number bytes spans) (chunk_at file n bytes span)
@@ -30,7 +30,7 @@ is_numbered file number bytes [] span has = absurd (contains-none span has)
 is_numbered file number bytes (x ∷ xs) span has = elim (contains-cases x span xs has) [
   | inl is ↦ (number, subst (λ (y : Span). Contains (chunk_at file number bytes x ∷ chunks_numbered file (number + 1) bytes xs) (chunk_at file number bytes y)) is (contains-here (chunk_at file number bytes x) (chunks_numbered file (number + 1) bytes xs)))
   | inr later ↦ (let rest = is_numbered file (number + 1) bytes xs span later in
-    (rest.0, contains-later (chunk_at file number bytes x) (chunk_at file rest.0 bytes span) (chunks_numbered file (number + 1) bytes xs) rest.1))
+      (rest.0, contains-later (chunk_at file number bytes x) (chunk_at file rest.0 bytes span) (chunks_numbered file (number + 1) bytes xs) rest.1))
 ]
 
 -- ---- of all files
@@ -47,7 +47,7 @@ of_files file number (bytes ∷ files) c has =
     elim (Contains-append_cases (chunks_numbered file number bytes (chunks_of bytes)) (chunks_from (file + 1) (number + length (chunks_of bytes)) files) c has) [
       | inl here ↦ record { before = 0; bytes = bytes; is_file = refl; one = subst (λ (f : ℕ). IsOneOf f bytes (chunks_of bytes) c) (let same : file ≡ file + 0 = omega arith in same) (of_numbered file number bytes (chunks_of bytes) c here) }
       | inr later ↦ (let rest = of_files (file + 1) (number + length (chunks_of bytes)) files c later in
-        record { before = suc rest.before; bytes = rest.bytes; is_file = rest.is_file; one = subst (λ (f : ℕ). IsOneOf f rest.bytes (chunks_of rest.bytes) c) (let same : file + 1 + rest.before ≡ file + suc rest.before = omega arith in same) rest.one })
+          record { before = suc rest.before; bytes = rest.bytes; is_file = rest.is_file; one = subst (λ (f : ℕ). IsOneOf f rest.bytes (chunks_of rest.bytes) c) (let same : file + 1 + rest.before ≡ file + suc rest.before = omega arith in same) rest.one })
     ]
 
 pub in_files : (file number : ℕ) (files : List (List ℕ)) (before : ℕ) (bytes : List ℕ) (span : Span) → slice_get files before ≡ Some bytes → Contains (chunks_of bytes) span
@@ -56,11 +56,15 @@ in_files file number [] before bytes span is has = absurd cc
 in_files file number (x ∷ xs) zero bytes span is has =
     let same : x ≡ bytes = cc in
     let here : file ≡ file + 0 = omega arith in
-    let one = is_numbered file number x (chunks_of x) span (subst (λ (b : List ℕ). Contains (chunks_of b) span) (sym same) has) in
-    (one.0, Contains-append_left (chunks_numbered file number x (chunks_of x)) (chunks_from (file + 1) (number + length (chunks_of x)) xs) (chunk_at (file + 0) one.0 bytes span)
-    (subst (λ (f : ℕ). Contains (chunks_numbered file number x (chunks_of x)) (chunk_at f one.0 bytes span)) here (subst (λ (b : List ℕ). Contains (chunks_numbered file number x (chunks_of x)) (chunk_at file one.0 b span)) same one.1)))
+    let one = is_numbered file number x (chunks_of x) span (subst (λ (b : List ℕ). Contains (chunks_of b) span) (sym same) has) in (
+      one.0,
+      Contains-append_left (chunks_numbered file number x (chunks_of x)) (chunks_from (file + 1) (number + length (chunks_of x)) xs) (chunk_at (file + 0) one.0 bytes span)
+          (subst (λ (f : ℕ). Contains (chunks_numbered file number x (chunks_of x)) (chunk_at f one.0 bytes span)) here (subst (λ (b : List ℕ). Contains (chunks_numbered file number x (chunks_of x)) (chunk_at file one.0 b span)) same one.1)),
+    )
 in_files file number (x ∷ xs) (suc before) bytes span is has =
     let rest = in_files (file + 1) (number + length (chunks_of x)) xs before bytes span is has in
-    let there : file + 1 + before ≡ file + suc before = omega arith in
-    (rest.0, Contains-append_right (chunks_numbered file number x (chunks_of x)) (chunks_from (file + 1) (number + length (chunks_of x)) xs) (chunk_at (file + suc before) rest.0 bytes span)
-    (subst (λ (f : ℕ). Contains (chunks_from (file + 1) (number + length (chunks_of x)) xs) (chunk_at f rest.0 bytes span)) there rest.1))
+    let there : file + 1 + before ≡ file + suc before = omega arith in (
+      rest.0,
+      Contains-append_right (chunks_numbered file number x (chunks_of x)) (chunks_from (file + 1) (number + length (chunks_of x)) xs) (chunk_at (file + suc before) rest.0 bytes span)
+          (subst (λ (f : ℕ). Contains (chunks_from (file + 1) (number + length (chunks_of x)) xs) (chunk_at f rest.0 bytes span)) there rest.1),
+    )

@@ -1,12 +1,10 @@
 -- A chunk that the relay took comes to a counter, and its postings to the collector; and so with lines and extents.
 use Rattle.std.proofs.Common.{◌≡◌, ℕ, ◌<◌, true, List, [], ◌∷◌, length, Option, Some, refl, sym, subst, ap, ◌∙◌, arith}
-use Rattle.std.specs.Prelude.{◌%◌, slice_get, Contains}
+use Rattle.std.specs.Prelude.{◌%◌, Contains}
 use Rattle.std.specs.List.{AllByRecursion}
 use Rattle.caf_types.specs.declared.notice.Priority.TheVariants as priority
 use Rattle.caf_index.proofs.ContainsLemmas.{contains-here}
-use Rattle.caf_message.specs.declared.envelope.Taken.{Taken}
 use Rattle.caf_actor.specs.Answering.{origin_of}
-use Rattle.caf_actor.specs.Merge.{IsMerge}
 use Rattle.caf_actor.specs.PlainInput.{PlainInput, Content}
 use Rattle.caf_actor.specs.PlainOutput.{PlainOutput, Tell}
 use Rattle.caf_actor.specs.Record.{Kept, machine_of, IsAtRest, joined}
@@ -19,7 +17,6 @@ use Rattle.caf_kinds.specs.Reacting.{Reacted}
 use Rattle.caf_kinds.specs.Relay.{lowered, peer_for}
 use Rattle.caf_kinds.specs.Setups.{setup_at}
 use Rattle.caf_kinds.specs.Starting.{started, who_of}
-use Rattle.caf_kinds.specs.Who.{Who}
 use Rattle.caf_kinds.specs.declared.contents.Chunk.{Chunk}
 use Rattle.caf_kinds.specs.declared.kind.Kind.{Kind}
 use Rattle.caf_kinds.specs.declared.kind.Kind.TheVariants as kind
@@ -29,8 +26,8 @@ use Rattle.caf_kinds.specs.declared.setup.KindName.TheVariants as name
 use Rattle.caf_kinds.specs.declared.setup.Setup.{Setup}
 use Rattle.caf_steady.specs.Classes.{BeginsSteady}
 use Rattle.caf_steady.specs.Steady.{Brings}
-use Rattle.caf_pipeline.specs.Undisturbed.{Pipeline, IsSetUp, IsPipeline}
-use Rattle.caf_pipeline.specs.Parts.{told_postings, told_extent}
+use Rattle.caf_pipeline.specs.Undisturbed.{Pipeline, IsSetUp}
+use Rattle.caf_pipeline.specs.Parts.{told_extent}
 use Rattle.caf_pipeline.specs.Contents.{relayed, counted, comes_as, comes}
 use Rattle.caf_pipeline.specs.Flow.{HasTaken, IsUndisturbedRecord, IsCollected, RelayedChunksAreCollected}
 use Rattle.caf_pipeline.proofs.ListLemmas.{one_of}

@@ -1,5 +1,5 @@
 -- What content puts into the collector's index: the postings of a chunk are its entries, and other content has none.
-use Rattle.std.proofs.Common.{◌≡◌, ℕ, suc, ◌+◌, ◌-◌, ◌<◌, Bool, true, false, List, [], ◌∷◌, ◌++◌, map, Option, Some, None, inl, inr, refl, sym, subst, ap, ◌∙◌, arith}
+use Rattle.std.proofs.Common.{◌≡◌, ℕ, ◌+◌, ◌-◌, Bool, true, false, List, [], ◌∷◌, ◌++◌, map, Option, Some, None, refl, sym, subst, ap, ◌∙◌, arith}
 use Rattle.std.specs.Prelude.{Contains, slice_get, if◌then◌else◌}
 use Rattle.caf_actor.specs.Answering.{is_asked}
 use Rattle.caf_actor.specs.declared.origin.Origin.{Origin}
@@ -7,11 +7,10 @@ use Rattle.caf_index.specs.Chunks.{chunk_bytes}
 use Rattle.caf_index.specs.Filled.{Entry, with_entries, IsFromAChunk}
 use Rattle.caf_index.specs.Index.{Entries, with_entry}
 use Rattle.caf_index.specs.Postings.{posting_at, postings_of}
-use Rattle.caf_index.specs.declared.posting.Posting.{Posting}
-use Rattle.caf_index.proofs.ContainsLemmas.{contains-map, from-map}
+use Rattle.caf_index.proofs.ContainsLemmas.{from-map}
 use Rattle.caf_kinds.specs.Asking.{has, asked}
 use Rattle.caf_kinds.specs.Collector.{asking_index, asking_totals, entry_of, is_answerable, on_postings, on_extent, on_finish, on_question, given}
-use Rattle.caf_kinds.specs.Counter.{item_of, postings_at}
+use Rattle.caf_kinds.specs.Counter.{item_of}
 use Rattle.caf_kinds.specs.FileChunks.{IsChunk, all_chunks}
 use Rattle.caf_kinds.specs.Pipeline.{of_postings, of_extent, of_finish, postings_in, extent_in, finish_in}
 use Rattle.caf_kinds.specs.Reacting.{Reacted}
@@ -19,7 +18,6 @@ use Rattle.caf_kinds.specs.declared.collector.Collector.{Collector}
 use Rattle.caf_kinds.specs.declared.contents.Chunk.{Chunk}
 use Rattle.caf_kinds.specs.declared.contents.Extent.{Extent}
 use Rattle.caf_kinds.specs.declared.contents.Finish.{Finish}
-use Rattle.caf_kinds.specs.declared.contents.Item.{Item}
 use Rattle.caf_kinds.specs.declared.contents.Postings.{Postings}
 use Rattle.caf_kinds.specs.declared.questions.Question.{Question}
 use Rattle.caf_kinds.specs.declared.questions.Question.TheVariants as question

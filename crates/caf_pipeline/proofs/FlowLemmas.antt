@@ -1,5 +1,5 @@
 -- What a part does with content that it took: what it tells comes to whom it tells it, where all is at rest.
-use Rattle.std.proofs.Common.{◌≡◌, ℕ, Bool, true, false, List, [], ◌∷◌, ◌++◌, map, Option, Some, None, inl, inr, refl, sym, subst, ap, ◌∙◌}
+use Rattle.std.proofs.Common.{◌≡◌, ℕ, Bool, true, false, List, [], ◌∷◌, Option, Some, inl, inr, refl, sym, subst, ap, ◌∙◌}
 use Rattle.std.specs.Prelude.{Contains}
 use Rattle.std.specs.List.{AllByRecursion}
 use Rattle.caf_index.proofs.ContainsLemmas.{contains-none, contains-cases, from-map}
@@ -10,12 +10,10 @@ use Rattle.caf_message.specs.declared.envelope.Taken.{Taken}
 use Rattle.caf_types.specs.declared.notice.Notice.TheVariants as notice
 use Rattle.caf_record.proofs.ListLemmas.{all_left, all_right}
 use Rattle.caf_actor.specs.declared.journal.TakenBatch.{TakenBatch}
-use Rattle.caf_actor.specs.declared.origin.Origin.{Origin}
 use Rattle.caf_actor.specs.declared.snapshot.Snapshot.{Snapshot}
 use Rattle.caf_actor.specs.Answering.{origin_of}
 use Rattle.caf_actor.specs.PlainInput.{PlainInput, Content}
 use Rattle.caf_actor.specs.PlainOutput.{PlainOutput}
-use Rattle.caf_actor.specs.PlainPost.{PlainPost}
 use Rattle.caf_actor.specs.Record.{Kept, machine_of, IsLegal, IsAtRest, joined, posted}
 use Rattle.caf_kinds.specs.Kinds.{kind_rules}
 use Rattle.caf_kinds.specs.Setups.{setup_at}
@@ -104,15 +102,15 @@ module _ (setups : List Setup) (cs : List Chunk) (place : ℕ) (s : Setup) (ther
     told_at o [] e words inv all has body tells = absurd (contains-none e has)
     told_at o (x ∷ xs) e words inv all has body tells = elim (contains-cases x e xs has) [
       | inl here ↦
-        (let is = as_content x all.0 in
-        let go = goes o.outline.behavior (Content (origin_of x) is.words) inv is.comes in
-        let both : «plain».Content is.words ≡ «plain».Content words = sym is.body_is ∙ ap (λ (y : Taken). y.body) here ∙ body in
-        let same : words ≡ is.words = cc in
-        let does = tells o.outline.behavior inv in
-        let input : Content (origin_of e) words ≡ Content (origin_of x) is.words = ap (λ (y : Taken). Content (origin_of y) words) (sym here) ∙ ap (Content (origin_of x)) same in
-        all_told (read_one kind_rules o x) xs (one_stays o x inv all.0) all.1
-        (subst (λ (y : Outlined Kind). HasTold to said y.sent) (sym (one_reads o x is.words is.body_is is.no_reply))
-        (content_now to said kind_rules o (origin_of x) is.words go.taken does.0 (subst (λ (i : PlainInput). Contains (kind_rules.reaction o.outline.behavior i).outputs does.0) input does.1) does.2)))
+          (let is = as_content x all.0 in
+          let go = goes o.outline.behavior (Content (origin_of x) is.words) inv is.comes in
+          let both : «plain».Content is.words ≡ «plain».Content words = sym is.body_is ∙ ap (λ (y : Taken). y.body) here ∙ body in
+          let same : words ≡ is.words = cc in
+          let does = tells o.outline.behavior inv in
+          let input : Content (origin_of e) words ≡ Content (origin_of x) is.words = ap (λ (y : Taken). Content (origin_of y) words) (sym here) ∙ ap (Content (origin_of x)) same in
+          all_told (read_one kind_rules o x) xs (one_stays o x inv all.0) all.1
+          (subst (λ (y : Outlined Kind). HasTold to said y.sent) (sym (one_reads o x is.words is.body_is is.no_reply))
+          (content_now to said kind_rules o (origin_of x) is.words go.taken does.0 (subst (λ (i : PlainInput). Contains (kind_rules.reaction o.outline.behavior i).outputs does.0) input does.1) does.2)))
       | inr later ↦ told_at (read_one kind_rules o x) xs e words (one_stays o x inv all.0) all.1 later body tells
     ]
 

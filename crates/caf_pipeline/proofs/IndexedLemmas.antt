@@ -1,14 +1,14 @@
 -- Where the relay took all chunks, the collector has the plain index of the files.
-use Rattle.std.proofs.Common.{◌≡◌, ℕ, ◌+◌, ◌-◌, ◌<◌, true, List, [], ◌∷◌, ◌++◌, length, map, Option, Some, inl, inr, refl, sym, subst, ap, ◌∙◌, arith}
-use Rattle.std.specs.Prelude.{◌^◌, nat_lt, All, Contains}
+use Rattle.std.proofs.Common.{◌≡◌, ℕ, ◌+◌, ◌-◌, ◌<◌, true, List, [], ◌∷◌, ◌++◌, length, map, Some, inl, inr, sym, subst, ap, ◌∙◌, arith}
+use Rattle.std.specs.Prelude.{◌^◌, All, Contains}
 use Rattle.std.specs.FinMap as finite
-use Rattle.std.specs.List.{AllByRecursion, list_all}
+use Rattle.std.specs.List.{AllByRecursion}
 use Rattle.std.proofs.lemmas.Bool.{ltb-true}
 use Rattle.std.proofs.lemmas.List.Elements.{Contains-append_left, Contains-append_right, Contains-append_cases}
 use Rattle.caf_message.specs.declared.envelope.Plain.{Plain}
 use Rattle.caf_message.specs.declared.envelope.Plain.TheVariants as «plain»
 use Rattle.caf_message.specs.declared.envelope.Taken.{Taken}
-use Rattle.caf_actor.specs.Answering.{is_asked, origin_of}
+use Rattle.caf_actor.specs.Answering.{origin_of}
 use Rattle.caf_actor.specs.PlainInput.{PlainInput, Content}
 use Rattle.caf_actor.specs.Record.{Kept, machine_of, IsAtRest}
 use Rattle.caf_actor.specs.Run.{Turn}
@@ -19,7 +19,7 @@ use Rattle.caf_index.specs.Index.{Entries}
 use Rattle.caf_index.specs.Postings.{posting_at, postings_of}
 use Rattle.caf_index.proofs.ContainsLemmas.{contains-none, contains-cases, contains-map, from-map}
 use Rattle.caf_index.proofs.FilledLemmas.{postings-fill}
-use Rattle.caf_kinds.specs.Collector.{asking_index, entry_of, given}
+use Rattle.caf_kinds.specs.Collector.{entry_of}
 use Rattle.caf_kinds.specs.Counter.{item_of}
 use Rattle.caf_kinds.specs.FileChunks.{IsChunk, all_chunks, chunk_at}
 use Rattle.caf_kinds.specs.Keeping.{first_of_and}
@@ -27,7 +27,6 @@ use Rattle.caf_kinds.specs.Kinds.{kind_rules, index_of}
 use Rattle.caf_kinds.specs.Pipeline.{postings_content}
 use Rattle.caf_kinds.specs.declared.contents.Chunk.{Chunk}
 use Rattle.caf_kinds.specs.declared.kind.Kind.{Kind}
-use Rattle.caf_kinds.specs.declared.kind.Kind.TheVariants as kind
 use Rattle.caf_kinds.specs.declared.script.Step.{Step}
 use Rattle.caf_kinds.specs.declared.setup.KindName.TheVariants as name
 use Rattle.caf_kinds.specs.declared.setup.Setup.{Setup}
@@ -38,7 +37,7 @@ use Rattle.caf_steady.proofs.ClassLemmas.{steady_behavior}
 use Rattle.caf_steady.proofs.ReadingLemmas.{reads_in_turn}
 use Rattle.caf_pipeline.specs.Parts.{index_content, totals_content, told_postings, told_extent, told_finish}
 use Rattle.caf_pipeline.specs.Contents.{counted, told_to, asked_of, comes}
-use Rattle.caf_pipeline.specs.Flow.{HasTaken, IsUndisturbedRecord}
+use Rattle.caf_pipeline.specs.Flow.{IsUndisturbedRecord}
 use Rattle.caf_pipeline.specs.Indexed.{IsRelayed, IsIndexed, RelayedFilesAreIndexed}
 use Rattle.caf_pipeline.proofs.ListLemmas.{one_of}
 use Rattle.caf_pipeline.proofs.ArrivalLemmas.{all_turns_have}
@@ -47,7 +46,7 @@ use Rattle.caf_pipeline.proofs.ClassLemmas.{at_content, Goes}
 use Rattle.caf_pipeline.proofs.CollectedLemmas.{chunks, brought, steady, starts, begins_as, may_come, collected}
 use Rattle.caf_pipeline.proofs.CollectorLemmas.{Collects, collector_goes}
 use Rattle.caf_pipeline.proofs.EntryLemmas.{entries_in, index_after, entries_on, chunk_entries, from_chunk}
-use Rattle.caf_pipeline.proofs.FlowLemmas.{BringsContent, as_content, one_leads, one_stays, in_turns}
+use Rattle.caf_pipeline.proofs.FlowLemmas.{as_content, one_leads, one_stays, in_turns}
 use Rattle.caf_pipeline.proofs.PartLemmas.{hands_on}
 
 -- ---- the entries of what was taken
@@ -64,8 +63,8 @@ told_has : (es : List Taken) (t : Taken) (words : List ℕ) (e : Entry) → Cont
 told_has [] t words e has body listed = absurd (contains-none t has)
 told_has (x ∷ xs) t words e has body listed = elim (contains-cases x t xs has) [
   | inl is ↦
-    (let same : words_of x.body ≡ words = ap (λ (y : Taken). words_of y.body) is ∙ ap words_of body in
-    Contains-append_left (entries_in (words_of x.body)) (told_entries xs) e (subst (λ (ws : List ℕ). Contains (entries_in ws) e) (sym same) listed))
+      (let same : words_of x.body ≡ words = ap (λ (y : Taken). words_of y.body) is ∙ ap words_of body in
+      Contains-append_left (entries_in (words_of x.body)) (told_entries xs) e (subst (λ (ws : List ℕ). Contains (entries_in ws) e) (sym same) listed))
   | inr later ↦ Contains-append_right (entries_in (words_of x.body)) (told_entries xs) e (told_has xs t words e later body listed)
 ]
 
@@ -109,9 +108,9 @@ module _ (setups : List Setup) (script : List Step) (files : List (List ℕ)) (t
   from_told words has e listed =
       elim (Contains-append_cases (map counted cs) (map told_extent cs ++ told_finish (length cs) ∷ []) words has) [
         | inl here ↦ (let from = from-map counted words cs here in
-          let c = from.0 in
-          let same : told_postings c ≡ words = sym (ap postings_content (hands_on.lowered_postings c)) ∙ from.2 in
-          from_chunk files c from.1 (one_of IsChunk cs c (chunks setups script files ticks k ts is) from.1) e (subst (λ (ws : List ℕ). Contains (entries_in ws) e) (sym same) listed))
+            let c = from.0 in
+            let same : told_postings c ≡ words = sym (ap postings_content (hands_on.lowered_postings c)) ∙ from.2 in
+            from_chunk files c from.1 (one_of IsChunk cs c (chunks setups script files ticks k ts is) from.1) e (subst (λ (ws : List ℕ). Contains (entries_in ws) e) (sym same) listed))
         | inr more ↦ elim (Contains-append_cases (map told_extent cs) (told_finish (length cs) ∷ []) words more) [
           | inl here ↦ (let from = from-map told_extent words cs here in absurd (contains-none e (subst (λ (ws : List ℕ). Contains (entries_in ws) e) (sym from.2) listed)))
           | inr last ↦ elim (contains-cases (told_finish (length cs)) words [] last) [
@@ -139,13 +138,13 @@ module _ (setups : List Setup) (script : List Step) (files : List (List ℕ)) (t
   all_right_in [] all e has = absurd (contains-none e has)
   all_right_in (t ∷ es) all e has = elim (Contains-append_cases (entries_in (words_of t.body)) (told_entries es) e has) [
     | inl here ↦
-      (let at = is.undisturbed.actors.collector.at in
-      let brings = as_content setups cs col s at Collects goes t all.0 in
-      let words : words_of t.body ≡ brings.words = ap words_of brings.body_is in
-      let right : IsRight (Content (origin_of t) brings.words) = at_content setups cs IsRight s name.Collector is.undisturbed.actors.collector.kind_is
-          (λ o ws told listed. from_told ws listed) (λ o ws from_0 listed. from_asked ws listed) (Content (origin_of t) brings.words)
-          (may_come setups script files ticks k ts is col s (Content (origin_of t) brings.words) at brings.comes) in
-      right e (subst (λ (ws : List ℕ). Contains (entries_in ws) e) words here))
+        (let at = is.undisturbed.actors.collector.at in
+        let brings = as_content setups cs col s at Collects goes t all.0 in
+        let words : words_of t.body ≡ brings.words = ap words_of brings.body_is in
+        let right : IsRight (Content (origin_of t) brings.words) = at_content setups cs IsRight s name.Collector is.undisturbed.actors.collector.kind_is
+        (λ o ws told listed. from_told ws listed) (λ o ws from_0 listed. from_asked ws listed) (Content (origin_of t) brings.words)
+        (may_come setups script files ticks k ts is col s (Content (origin_of t) brings.words) at brings.comes) in
+        right e (subst (λ (ws : List ℕ). Contains (entries_in ws) e) words here))
     | inr later ↦ all_right_in es all.1 e later
   ]
 

@@ -1,12 +1,10 @@
 -- Reading content: the value after it, and that what was told stays told.
-use Rattle.std.proofs.Common.{◌≡◌, ℕ, nat_le, Bool, true, false, List, [], ◌∷◌, ◌++◌, Option, Some, None, inl, inr, refl, sym, subst, ap, ◌∙◌, if◌then◌else◌}
+use Rattle.std.proofs.Common.{◌≡◌, ℕ, nat_le, Bool, true, false, List, [], ◌∷◌, Option, Some, None, inl, inr, refl, sym, subst, ap, ◌∙◌}
 use Rattle.std.specs.Prelude.{Contains}
-use Rattle.std.specs.List.{AllByRecursion}
-use Rattle.std.proofs.lemmas.List.Elements.{Contains-append_left, Contains-append_right, Contains-push}
+use Rattle.std.proofs.lemmas.List.Elements.{Contains-append_left, Contains-push}
 use Rattle.caf_types.specs.Limits.{last_count}
 use Rattle.caf_types.specs.declared.notice.Mid.{Mid}
 use Rattle.caf_types.specs.declared.notice.Priority.{Priority}
-use Rattle.caf_types.specs.declared.sec.Sec.{Sec}
 use Rattle.caf_types.specs.declared.shape.TypeId.{TypeId}
 use Rattle.caf_index.proofs.ContainsLemmas.{contains-none, contains-cases}
 use Rattle.caf_message.specs.Content.{ids_in}
@@ -24,7 +22,7 @@ use Rattle.caf_actor.specs.PlainOutput.{PlainOutput, Tell, TellMany, Request, Ex
 use Rattle.caf_actor.specs.PlainReaction.{PlainAnswer, Value, Error, Delegate, Hold, Nothing}
 use Rattle.caf_actor.specs.Rules.{Rules, is_input}
 use Rattle.caf_actor.specs.Sending.{mid_of}
-use Rattle.caf_steady.specs.Outline.{Outlined, Bare, with_outline, send, tell, tell_many, reply, request, settle_hold, send_output, send_outputs, answer_request, answer_tell, answer}
+use Rattle.caf_steady.specs.Outline.{Outlined, Bare, with_outline, send, tell, tell_many, request, settle_hold, send_output, send_outputs, answer_request, answer_tell, answer}
 use Rattle.caf_steady.specs.Reading.{react, content}
 
 -- ---- the value

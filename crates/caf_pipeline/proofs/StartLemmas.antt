@@ -1,10 +1,7 @@
 -- What the actor of a place begins as, in a record of an undisturbed run.
-use Rattle.std.proofs.Common.{◌≡◌, ℕ, suc, ◌+◌, ◌-◌, ◌<◌, ◌≤◌, List, length, Some, refl, sym, subst, ap, ◌∙◌, arith}
-use Rattle.std.specs.Prelude.{not, slice_get}
+use Rattle.std.proofs.Common.{◌≡◌, ℕ, suc, ◌+◌, ◌-◌, ◌<◌, List, Some, sym, ap, ◌∙◌, arith}
 use Rattle.caf_actor.specs.Record.{Kept}
-use Rattle.caf_actor.specs.Snapshot.{fresh}
 use Rattle.caf_actor.specs.declared.snapshot.Snapshot.{Snapshot}
-use Rattle.caf_kinds.specs.Kinds.{kind_rules}
 use Rattle.caf_kinds.specs.Setups.{setup_at}
 use Rattle.caf_kinds.specs.Starting.{started, who_of}
 use Rattle.caf_kinds.specs.declared.kind.Kind.{Kind}
