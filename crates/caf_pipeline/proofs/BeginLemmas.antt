@@ -44,7 +44,7 @@ module _ (setups : List Setup) (p : Pipeline) (script : List Step) (files : List
   each_keeps : (k : ℕ) (s : Setup) → slice_get setups k ≡ Some s → Keeps s
   each_keeps = at_each_place Keeps setups p is
       (λ s so place own at all. as_kind_is name.Source s place own so.kind_is
-      (source_keeps setups (all_chunks files) p is chunks place (who_of place s) (sym (source_place setups p is place s at so.kind_is)) so.peers_are s at so.kind_is (source.started (who_of place s) own) refl (ap all_chunks (all so.kind_is))))
+      (source_keeps setups (all_chunks files) p is chunks place (who_of place s) (sym (source_place setups p is place s at so.kind_is)) (sym (source_place setups p is place s at so.kind_is)) so.peers_are s at so.kind_is (source.started (who_of place s) own) refl (ap all_chunks (all so.kind_is))))
       (λ s so place own at all. as_kind_is name.Lines s place own so.kind_is (lines_keeps setups (all_chunks files) p is chunks (who_of place s) place s at so.kind_is so.peers_are))
       (λ s so place own at all. as_kind_is name.Relay s place own so.kind_is (relay_keeps setups (all_chunks files) p is chunks (who_of place s) place s at so.kind_is so.peers_are))
       (λ s so place own at all. as_kind_is name.Collector s place own so.kind_is (collector_keeps setups (all_chunks files) chunks place s at so.kind_is _ refl))

@@ -55,11 +55,11 @@ contained_is_one words (x ∷ xs) has = go (bytes_eq words x) refl (contains-cas
 -- ---- what may be sent
 
 module _ (setups : List Setup) (cs : List Chunk) where
-  pub told_comes : (kind : KindName) (peers : List ℕ) (to : ℕ) (place : ℕ) (priority : Priority) (words : List ℕ) → IsSetUp setups kind peers to → Contains (told_to cs kind) words
+  pub told_comes : (kind : KindName) (peers : List ℕ) (to : ℕ) (place : ℕ) (priority : Priority) (words : List ℕ) → IsSetUp setups kind peers to → Contains (told_to cs kind (place == to)) words
       → MayTell (comes setups cs) place priority words to
   told_comes kind peers to place priority words is has =
-      let one : is_one_of words (told_to cs is.setup.kind) ≡ true = ap (λ (k : KindName). is_one_of words (told_to cs k)) is.kind_is ∙ contained_is_one words (told_to cs kind) has in
-      ap (λ (o : Option Setup). comes_as cs o (Content (origin_from place (no_request place) priority) words)) is.at
+      let one : is_one_of words (told_to cs is.setup.kind (place == to)) ≡ true = ap (λ (k : KindName). is_one_of words (told_to cs k (place == to))) is.kind_is ∙ contained_is_one words (told_to cs kind (place == to)) has in
+      ap (λ (o : Option Setup). comes_as cs to o (Content (origin_from place (no_request place) priority) words)) is.at
       ∙ ap (λ (b : Bool). b || ((place == 0) && is_one_of words (asked_of is.setup.kind))) one
 
   or_true : (a : Bool) → (a || true) ≡ true
@@ -71,34 +71,34 @@ module _ (setups : List Setup) (cs : List Chunk) where
   asked_comes kind peers to number priority words is has =
       let one : is_one_of words (asked_of is.setup.kind) ≡ true = ap (λ (k : KindName). is_one_of words (asked_of k)) is.kind_is ∙ contained_is_one words (asked_of kind) has in
       let origin = origin_from 0 (mid_of 0 number) priority in
-      ap (λ (o : Option Setup). comes_as cs o (Content origin words)) is.at
-      ∙ ap (λ (b : Bool). (not (is_asked origin) && is_one_of words (told_to cs is.setup.kind)) || b) one
-      ∙ or_true (not (is_asked origin) && is_one_of words (told_to cs is.setup.kind))
+      ap (λ (o : Option Setup). comes_as cs to o (Content origin words)) is.at
+      ∙ ap (λ (b : Bool). (not (is_asked origin) && is_one_of words (told_to cs is.setup.kind (0 == to))) || b) one
+      ∙ or_true (not (is_asked origin) && is_one_of words (told_to cs is.setup.kind (0 == to)))
 
   pub answered_comes : (requester : ℕ) (words : List ℕ) → requester ≡ 0 → MayAnswer (comes setups cs) requester words
   answered_comes requester words e = subst (λ (r : ℕ). MayAnswer (comes setups cs) r words) (sym e) (λ tag. (refl, refl))
 
   -- ---- what comes to a part is content that it is told, or that place 0 asks
 
-  pub at_content : (P : PlainInput → Type 0) (s : Setup) (kind : KindName) → s.kind ≡ kind
-      → ((o : Origin) (words : List ℕ) → is_asked o ≡ false → Contains (told_to cs kind) words → P (Content o words))
+  pub at_content : (place : ℕ) (P : PlainInput → Type 0) (s : Setup) (kind : KindName) → s.kind ≡ kind
+      → ((o : Origin) (words : List ℕ) → is_asked o ≡ false → Contains (told_to cs kind (o.sender == place)) words → P (Content o words))
       → ((o : Origin) (words : List ℕ) → o.mid.requester ≡ 0 → Contains (asked_of kind) words → P (Content o words))
-      → (i : PlainInput) → comes_as cs (Some s) i ≡ true → P i
-  at_content P s kind same told asked (Content o words) e =
-      elim (either_part (not (is_asked o) && is_one_of words (told_to cs s.kind)) ((o.mid.requester == 0) && is_one_of words (asked_of s.kind)) e) [
+      → (i : PlainInput) → comes_as cs place (Some s) i ≡ true → P i
+  at_content place P s kind same told asked (Content o words) e =
+      elim (either_part (not (is_asked o) && is_one_of words (told_to cs s.kind (o.sender == place))) ((o.mid.requester == 0) && is_one_of words (asked_of s.kind)) e) [
         | inl here ↦
-            (let both = both_parts (not (is_asked o)) (is_one_of words (told_to cs s.kind)) here in
-            told o words (from_not (is_asked o) both.0) (subst (λ (k : KindName). Contains (told_to cs k) words) same (one_is_contained words (told_to cs s.kind) both.1)))
+            (let both = both_parts (not (is_asked o)) (is_one_of words (told_to cs s.kind (o.sender == place))) here in
+            told o words (from_not (is_asked o) both.0) (subst (λ (k : KindName). Contains (told_to cs k (o.sender == place)) words) same (one_is_contained words (told_to cs s.kind (o.sender == place)) both.1)))
         | inr here ↦
             (let both = both_parts (o.mid.requester == 0) (is_one_of words (asked_of s.kind)) here in
             asked o words (same_number o.mid.requester 0 both.0) (subst (λ (k : KindName). Contains (asked_of k) words) same (one_is_contained words (asked_of s.kind) both.1)))
       ]
-  at_content P s kind same told asked Start e = absurd cc
-  at_content P s kind same told asked Stop e = absurd cc
-  at_content P s kind same told asked (Response tag words) e = absurd cc
-  at_content P s kind same told asked (Failed tag sec) e = absurd cc
-  at_content P s kind same told asked (Down from why) e = absurd cc
-  at_content P s kind same told asked Tick e = absurd cc
+  at_content place P s kind same told asked Start e = absurd cc
+  at_content place P s kind same told asked Stop e = absurd cc
+  at_content place P s kind same told asked (Response tag words) e = absurd cc
+  at_content place P s kind same told asked (Failed tag sec) e = absurd cc
+  at_content place P s kind same told asked (Down from why) e = absurd cc
+  at_content place P s kind same told asked Tick e = absurd cc
 
   -- ---- what stays true
 

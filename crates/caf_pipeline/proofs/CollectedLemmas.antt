@@ -67,8 +67,8 @@ module _ (setups : List Setup) (script : List Step) (files : List (List ℕ)) (t
   pub begins_as : (q : ℕ) (s : Setup) (kind : KindName) (at : setup_at setups q ≡ Some s) → s.kind ≡ kind → (k.start q).behavior ≡ started (who_of q s) s setups script (starts q s at).own kind
   begins_as q s kind at e = (starts q s at).behavior ∙ ap (λ (n : KindName). started (who_of q s) s setups script (starts q s at).own n) e
 
-  pub may_come : (q : ℕ) (s : Setup) (i : PlainInput) → setup_at setups q ≡ Some s → comes setups cs q i ≡ true → comes_as cs (Some s) i ≡ true
-  may_come q s i at e = sym (ap (λ (o : Option Setup). comes_as cs o i) at) ∙ e
+  pub may_come : (q : ℕ) (s : Setup) (i : PlainInput) → setup_at setups q ≡ Some s → comes setups cs q i ≡ true → comes_as cs q (Some s) i ≡ true
+  may_come q s i at e = sym (ap (λ (o : Option Setup). comes_as cs q o i) at) ∙ e
 
   module _ (rest : IsAtRest (machine_of kind_rules) k) (c : Chunk) (has : Contains cs c) where
     is_chunk : IsChunk c

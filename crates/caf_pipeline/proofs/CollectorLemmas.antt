@@ -83,7 +83,7 @@ module _ (setups : List Setup) (cs : List Chunk) (chunks : AreChunks cs) (place 
       (λ _ e. go _ e taken tt tt refl same))
       e
 
-  told_goes : (s : Collector) (o : Origin) (words : List ℕ) → AreOfPlace0 s.held → is_asked o ≡ false → Contains (told_to cs name.Collector) words → Goes setups cs place Collects (kind.Collector s) (Content o words)
+  told_goes : (s : Collector) (o : Origin) (words : List ℕ) → AreOfPlace0 s.held → is_asked o ≡ false → Contains (told_to cs name.Collector false) words → Goes setups cs place Collects (kind.Collector s) (Content o words)
   told_goes s o words held told has =
       elim (Contains-append_cases (map counted cs) (map told_extent cs ++ told_finish (length cs) ∷ []) words has) [
         | inl here ↦ (let from = from-map counted words cs here in
@@ -112,15 +112,15 @@ module _ (setups : List Setup) (cs : List Chunk) (chunks : AreChunks cs) (place 
         ]
       ]
 
-  pub collector_goes : (s : Setup) → s.kind ≡ name.Collector → (b : Kind) (i : PlainInput) → Collects b → comes_as cs (Some s) i ≡ true → Goes setups cs place Collects b i
+  pub collector_goes : (s : Setup) → s.kind ≡ name.Collector → (b : Kind) (i : PlainInput) → Collects b → comes_as cs place (Some s) i ≡ true → Goes setups cs place Collects b i
   collector_goes s is b i inv e =
       subst (λ (k : Kind). Goes setups cs place Collects k i) (sym inv.is)
-      (at_content setups cs (Goes setups cs place Collects (kind.Collector inv.collector)) s name.Collector is
+      (at_content setups cs place (Goes setups cs place Collects (kind.Collector inv.collector)) s name.Collector is
       (λ o words told has. told_goes inv.collector o words inv.held told has)
       (λ o words from_0 has. asked_goes inv.collector o words inv.held from_0 has) i e)
 
   pub collector_keeps : (s : Setup) → setup_at setups place ≡ Some s → s.kind ≡ name.Collector → (c : Collector) → c.held ≡ [] → AlwaysKeeps (comes setups cs) kind_rules place (kind.Collector c)
   collector_keeps s at is c none =
       always_keeps setups cs place Collects (λ b inv ids. ap (λ (k : Kind). kind_rules.skips k ids) inv.is)
-      (λ b i inv e. collector_goes s is b i inv (sym (ap (λ (o : Option Setup). comes_as cs o i) at) ∙ e)) (kind.Collector c)
+      (λ b i inv e. collector_goes s is b i inv (sym (ap (λ (o : Option Setup). comes_as cs place o i) at) ∙ e)) (kind.Collector c)
       (record { collector = c; is = refl; held = subst AreOfPlace0 (sym none) tt })

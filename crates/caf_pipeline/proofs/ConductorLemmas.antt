@@ -1,6 +1,6 @@
 -- The conductor of an undisturbed script keeps to what may come.
-use Rattle.std.proofs.Common.{◌≡◌, ℕ, ◌+◌, true, List, [], ◌∷◌, flat_map, Option, Some, None, refl, sym, subst, ap, ◌∙◌}
-use Rattle.std.specs.Prelude.{Contains}
+use Rattle.std.proofs.Common.{◌≡◌, ℕ, Bool, false, ◌<◌, arith, ◌+◌, true, List, [], ◌∷◌, flat_map, Option, Some, None, refl, sym, subst, ap, ◌∙◌}
+use Rattle.std.specs.Prelude.{◌==◌, Contains}
 use Rattle.std.specs.List.{AllByRecursion}
 use Rattle.std.proofs.lemmas.List.Concat.{flat_map-cons}
 use Rattle.caf_types.specs.declared.shape.TypeId.{TypeId}
@@ -33,8 +33,10 @@ use Rattle.caf_steady.specs.Classes.{AlwaysKeeps, IsTaken, MaySend, MayReplyTo}
 use Rattle.caf_pipeline.specs.Undisturbed.{Pipeline, IsPipeline, IsRequested, IsPlainScript}
 use Rattle.caf_pipeline.specs.Parts.{start_content, index_content, totals_content}
 use Rattle.caf_pipeline.specs.Sent.{summary_types, total_types, IsTell, IsRequest}
-use Rattle.caf_pipeline.specs.Contents.{asked_of, comes}
+use Rattle.caf_pipeline.specs.Contents.{told_to, asked_of, comes}
 use Rattle.caf_pipeline.proofs.ClassLemmas.{told_comes, asked_comes, Goes, goes_as, always_keeps}
+use Rattle.caf_carriers.proofs.CountLemmas.{same_number}
+use Rattle.caf_pipeline.proofs.PlaceLemmas.{one_of_setups}
 use Rattle.caf_pipeline.proofs.SentLemmas.{Sends, told_sends, requested_sends}
 
 module _ (setups : List Setup) (cs : List Chunk) (p : Pipeline) (are : IsPipeline setups p) where
@@ -46,11 +48,20 @@ module _ (setups : List Setup) (cs : List Chunk) (p : Pipeline) (are : IsPipelin
 
   -- ---- the steps of the script
 
+  not_0 : (0 == p.source) ≡ false
+  not_0 =
+      let low = (one_of_setups setups p.source are.source.setup are.source.at).from_1 in
+      go (0 == p.source) refl low
+    where
+      go : (b : Bool) → (0 == p.source) ≡ b → 0 < p.source → (0 == p.source) ≡ false
+      go true q low = let same = same_number 0 p.source q in absurd (omega (arith, same, low))
+      go false q low = q
+
   tell_may : (o : PlainOutput) → IsTell p.source start_content o → May o
   tell_may (Tell to priority words) is =
       subst (λ (q : ℕ). May (Tell q priority words)) (sym is.0)
       (subst (λ (ws : List ℕ). May (Tell p.source priority ws)) (sym is.1)
-      (told_comes setups cs name.Source (p.lines ∷ p.relay ∷ p.collector ∷ []) p.source 0 priority start_content are.source (contains-here start_content (more_content ∷ []))))
+      (told_comes setups cs name.Source (p.lines ∷ p.relay ∷ p.collector ∷ []) p.source 0 priority start_content are.source (subst (λ (own : Bool). Contains (told_to cs name.Source own) start_content) (sym not_0) (contains-here start_content []))))
   tell_may _ is = absurd is
 
   request_may : (n : ℕ) (types : List TypeId) (words : List ℕ) → Contains (asked_of name.Collector) words → (o : PlainOutput) → IsRequest p.collector n types words o → May o

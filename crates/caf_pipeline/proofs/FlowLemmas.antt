@@ -40,14 +40,14 @@ pub record BringsContent (may : PlainInput → Bool) (e : Taken) : Type 0 where
   pub no_reply : e.mid.response ≡ false
   pub comes : may (Content (origin_of e) words) ≡ true
 
-pub brings_content : (cs : List Chunk) (s : Setup) (e : Taken) → Brings (comes_as cs (Some s)) e → BringsContent (comes_as cs (Some s)) e
-brings_content cs s e brings = go e.body refl brings
+pub brings_content : (cs : List Chunk) (place : ℕ) (s : Setup) (e : Taken) → Brings (comes_as cs place (Some s)) e → BringsContent (comes_as cs place (Some s)) e
+brings_content cs place s e brings = go e.body refl brings
   where
-    content_is : (words : List ℕ) → e.body ≡ «plain».Content words → (b : Bool) → e.mid.response ≡ b → BodyBrings (comes_as cs (Some s)) (origin_of e) («plain».Content words) → BringsContent (comes_as cs (Some s)) e
+    content_is : (words : List ℕ) → e.body ≡ «plain».Content words → (b : Bool) → e.mid.response ≡ b → BodyBrings (comes_as cs place (Some s)) (origin_of e) («plain».Content words) → BringsContent (comes_as cs place (Some s)) e
     content_is words q true r h = let bad = rw r at h in let no_such : false ≡ true = (bad 0).0 in absurd cc
     content_is words q false r h = record { words = words; body_is = q; no_reply = r; comes = rw r at h }
 
-    go : (b : Plain) → e.body ≡ b → BodyBrings (comes_as cs (Some s)) (origin_of e) b → BringsContent (comes_as cs (Some s)) e
+    go : (b : Plain) → e.body ≡ b → BodyBrings (comes_as cs place (Some s)) (origin_of e) b → BringsContent (comes_as cs place (Some s)) e
     go («plain».Content words) q h = content_is words q e.mid.response refl h
     go («plain».Failure sec) q h = let no_such : false ≡ true = h 0 in absurd cc
     go («plain».System notice.Start) q h = absurd cc
@@ -67,7 +67,7 @@ module _ (setups : List Setup) (cs : List Chunk) (place : ℕ) (s : Setup) (ther
     (goes : (b : Kind) (i : PlainInput) → Inv b → comes setups cs place i ≡ true → Goes setups cs place Inv b i) where
   pub as_content : (e : Taken) → Brings (comes setups cs place) e → BringsContent (comes setups cs place) e
   as_content e brings =
-      subst (λ (o : Option Setup). BringsContent (comes_as cs o) e) (sym there) (brings_content cs s e (subst (λ (o : Option Setup). Brings (comes_as cs o) e) there brings))
+      subst (λ (o : Option Setup). BringsContent (comes_as cs place o) e) (sym there) (brings_content cs place s e (subst (λ (o : Option Setup). Brings (comes_as cs place o) e) there brings))
 
   one_reads : (o : Outlined Kind) (e : Taken) (words : List ℕ) → e.body ≡ «plain».Content words → e.mid.response ≡ false → read_one kind_rules o e ≡ content kind_rules o (origin_of e) words
   one_reads o e words body told = ap (read_body kind_rules o (origin_of e)) body ∙ rw told refl

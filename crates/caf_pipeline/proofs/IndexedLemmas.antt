@@ -1,5 +1,5 @@
 -- Where the relay took all chunks, the collector has the plain index of the files.
-use Rattle.std.proofs.Common.{◌≡◌, ℕ, ◌+◌, ◌-◌, ◌<◌, true, List, [], ◌∷◌, ◌++◌, length, map, Some, inl, inr, sym, subst, ap, ◌∙◌, arith}
+use Rattle.std.proofs.Common.{◌≡◌, ℕ, ◌+◌, ◌-◌, ◌<◌, Bool, true, false, List, [], ◌∷◌, ◌++◌, length, map, Some, inl, inr, sym, subst, ap, ◌∙◌, arith}
 use Rattle.std.specs.Prelude.{◌^◌, All, Contains}
 use Rattle.std.specs.FinMap as finite
 use Rattle.std.specs.List.{AllByRecursion}
@@ -104,7 +104,7 @@ module _ (setups : List Setup) (script : List Step) (files : List (List ℕ)) (t
 
   -- ---- the entries are those of chunks
 
-  from_told : (words : List ℕ) → Contains (told_to cs name.Collector) words → (e : Entry) → Contains (entries_in words) e → IsFromAChunk files e
+  from_told : (words : List ℕ) → Contains (told_to cs name.Collector false) words → (e : Entry) → Contains (entries_in words) e → IsFromAChunk files e
   from_told words has e listed =
       elim (Contains-append_cases (map counted cs) (map told_extent cs ++ told_finish (length cs) ∷ []) words has) [
         | inl here ↦ (let from = from-map counted words cs here in
@@ -141,7 +141,7 @@ module _ (setups : List Setup) (script : List Step) (files : List (List ℕ)) (t
         (let at = is.undisturbed.actors.collector.at in
         let brings = as_content setups cs col s at Collects goes t all.0 in
         let words : words_of t.body ≡ brings.words = ap words_of brings.body_is in
-        let right : IsRight (Content (origin_of t) brings.words) = at_content setups cs IsRight s name.Collector is.undisturbed.actors.collector.kind_is
+        let right : IsRight (Content (origin_of t) brings.words) = at_content setups cs col IsRight s name.Collector is.undisturbed.actors.collector.kind_is
         (λ o ws told listed. from_told ws listed) (λ o ws from_0 listed. from_asked ws listed) (Content (origin_of t) brings.words)
         (may_come setups script files ticks k ts is col s (Content (origin_of t) brings.words) at brings.comes) in
         right e (subst (λ (ws : List ℕ). Contains (entries_in ws) e) words here))

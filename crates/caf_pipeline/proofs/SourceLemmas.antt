@@ -1,9 +1,10 @@
 -- The source keeps to what may come.
-use Rattle.std.proofs.Common.{◌≡◌, ℕ, zero, suc, ◌-◌, true, false, List, [], ◌∷◌, length, map, take, drop, Option, Some, inl, inr, refl, sym, subst, ap, ◌∙◌}
-use Rattle.std.specs.Prelude.{slice_get, Contains}
+use Rattle.std.proofs.Common.{◌≡◌, ℕ, zero, suc, ◌-◌, Bool, true, false, List, [], ◌∷◌, length, map, take, drop, Option, Some, inl, inr, refl, sym, subst, ap, ◌∙◌}
+use Rattle.std.specs.Prelude.{◌==◌, slice_get, Contains}
 use Rattle.std.specs.List.{AllByRecursion}
 use Rattle.caf_types.specs.declared.notice.Priority.TheVariants as priority
 use Rattle.caf_index.proofs.ContainsLemmas.{contains-none, contains-here, contains-later, contains-cases, contains-map}
+use Rattle.caf_carriers.proofs.CountLemmas.{self_same}
 use Rattle.caf_mailbox.proofs.NextLemmas.{all_append}
 use Rattle.caf_actor.specs.declared.origin.Origin.{Origin}
 use Rattle.caf_actor.specs.Answering.{is_asked}
@@ -56,14 +57,17 @@ module _ (setups : List Setup) (cs : List Chunk) (p : Pipeline) (are : IsPipelin
     pub identity : source.identity ≡ who
     pub chunks : source.chunks ≡ cs
 
-  module _ (place : ℕ) (who : Who) (at : who.place ≡ p.source) (peers : who.peers ≡ p.lines ∷ p.relay ∷ p.collector ∷ []) where
+  module _ (place : ℕ) (who : Who) (here : place ≡ p.source) (at : who.place ≡ p.source) (peers : who.peers ≡ p.lines ∷ p.relay ∷ p.collector ∷ []) where
     abbrev May : PlainOutput → Type 0
     May = MaySend (comes setups cs) place
+
+    own : (place == p.source) ≡ true
+    own = ap (λ (q : ℕ). place == q) (sym here) ∙ self_same place
 
     itself_may : (s : Sourced) → s.identity ≡ who → May (tells_itself s)
     itself_may s same =
         subst (λ (to : ℕ). May (output.Tell to priority.Normal more_content)) (sym (ap (λ (w : Who). w.place) same ∙ at))
-        (told_comes setups cs name.Source (p.lines ∷ p.relay ∷ p.collector ∷ []) p.source place priority.Normal more_content are.source (contains-later start_content more_content (more_content ∷ []) (contains-here more_content [])))
+        (told_comes setups cs name.Source (p.lines ∷ p.relay ∷ p.collector ∷ []) p.source place priority.Normal more_content are.source (subst (λ (own : Bool). Contains (told_to cs name.Source own) more_content) (sym own) (contains-here more_content [])))
 
     chunk_may : (s : Sourced) (c : Chunk) → s.identity ≡ who → Contains cs c → May (tells_all s c)
     chunk_may s c same has =
@@ -113,24 +117,27 @@ module _ (setups : List Setup) (cs : List Chunk) (p : Pipeline) (are : IsPipelin
         goes_as setups cs place (SourcesFor who) (kind.Source s) (Content o more_content) (as_kind kind.Source (s, answers done)) (ap (λ (t : Stage). as_kind kind.Source (on_more t s)) e) refl
         tt (λ asked. absurd (not_asked o told asked)) refl (record { source = s; is = refl; identity = same; chunks = chunks })
 
-    source_told : (s : Sourced) (o : Origin) (words : List ℕ) → s.identity ≡ who → s.chunks ≡ cs → is_asked o ≡ false → Contains (told_to cs name.Source) words → Goes setups cs place (SourcesFor who) (kind.Source s) (Content o words)
-    source_told s o words same chunks told has =
-        elim (contains-cases start_content words (more_content ∷ []) has) [
+    source_told : (s : Sourced) (o : Origin) (words : List ℕ) → s.identity ≡ who → s.chunks ≡ cs → is_asked o ≡ false → (own : Bool) → Contains (told_to cs name.Source own) words
+        → Goes setups cs place (SourcesFor who) (kind.Source s) (Content o words)
+    source_told s o words same chunks told false has =
+        elim (contains-cases start_content words [] has) [
           | inl is ↦ subst (λ (ws : List ℕ). Goes setups cs place (SourcesFor who) (kind.Source s) (Content o ws)) is (start_goes s o s.stage refl same chunks told)
-          | inr more ↦ elim (contains-cases more_content words [] more) [
-            | inl is ↦ subst (λ (ws : List ℕ). Goes setups cs place (SourcesFor who) (kind.Source s) (Content o ws)) is (more_goes s o s.stage refl same chunks told)
-            | inr none ↦ absurd (contains-none words none)
-          ]
+          | inr none ↦ absurd (contains-none words none)
+        ]
+    source_told s o words same chunks told true has =
+        elim (contains-cases more_content words [] has) [
+          | inl is ↦ subst (λ (ws : List ℕ). Goes setups cs place (SourcesFor who) (kind.Source s) (Content o ws)) is (more_goes s o s.stage refl same chunks told)
+          | inr none ↦ absurd (contains-none words none)
         ]
 
-    pub source_goes : (s : Setup) → s.kind ≡ name.Source → (b : Kind) (i : PlainInput) → SourcesFor who b → comes_as cs (Some s) i ≡ true → Goes setups cs place (SourcesFor who) b i
+    pub source_goes : (s : Setup) → s.kind ≡ name.Source → (b : Kind) (i : PlainInput) → SourcesFor who b → comes_as cs place (Some s) i ≡ true → Goes setups cs place (SourcesFor who) b i
     source_goes s is b i inv e =
         subst (λ (k : Kind). Goes setups cs place (SourcesFor who) k i) (sym inv.is)
-        (at_content setups cs (Goes setups cs place (SourcesFor who) (kind.Source inv.source)) s name.Source is
-        (λ o words told has. source_told inv.source o words inv.identity inv.chunks told has) (λ o words from_0 has. absurd (contains-none words has)) i e)
+        (at_content setups cs place (Goes setups cs place (SourcesFor who) (kind.Source inv.source)) s name.Source is
+        (λ o words told has. source_told inv.source o words inv.identity inv.chunks told (o.sender == place) has) (λ o words from_0 has. absurd (contains-none words has)) i e)
 
     pub source_keeps : (s : Setup) → setup_at setups place ≡ Some s → s.kind ≡ name.Source → (c : Sourced) → c.identity ≡ who → c.chunks ≡ cs → AlwaysKeeps (comes setups cs) kind_rules place (kind.Source c)
     source_keeps s there is c same chunks =
         always_keeps setups cs place (SourcesFor who) (λ b inv ids. ap (λ (k : Kind). kind_rules.skips k ids) inv.is)
-        (λ b i inv e. source_goes s is b i inv (sym (ap (λ (o : Option Setup). comes_as cs o i) there) ∙ e)) (kind.Source c)
+        (λ b i inv e. source_goes s is b i inv (sym (ap (λ (o : Option Setup). comes_as cs place o i) there) ∙ e)) (kind.Source c)
         (record { source = c; is = refl; identity = same; chunks = chunks })

@@ -37,15 +37,15 @@ module _ (setups : List Setup) (cs : List Chunk) (p : Pipeline) (are : IsPipelin
 
   -- ---- what the collector is told
 
-  pub postings_come : (c : Chunk) → Contains cs c → Contains (told_to cs name.Collector) (counted c)
+  pub postings_come : (c : Chunk) → Contains cs c → Contains (told_to cs name.Collector false) (counted c)
   postings_come c has = Contains-append_left (map counted cs) (map told_extent cs ++ told_finish (length cs) ∷ []) (counted c) (contains-map counted c cs has)
 
-  pub extents_come : (c : Chunk) → Contains cs c → Contains (told_to cs name.Collector) (told_extent c)
+  pub extents_come : (c : Chunk) → Contains cs c → Contains (told_to cs name.Collector false) (told_extent c)
   extents_come c has =
       Contains-append_right (map counted cs) (map told_extent cs ++ told_finish (length cs) ∷ []) (told_extent c)
       (Contains-append_left (map told_extent cs) (told_finish (length cs) ∷ []) (told_extent c) (contains-map told_extent c cs has))
 
-  pub finish_comes : Contains (told_to cs name.Collector) (told_finish (length cs))
+  pub finish_comes : Contains (told_to cs name.Collector false) (told_finish (length cs))
   finish_comes =
       Contains-append_right (map counted cs) (map told_extent cs ++ told_finish (length cs) ∷ []) (told_finish (length cs))
       (Contains-append_right (map told_extent cs) (told_finish (length cs) ∷ []) (told_finish (length cs)) (contains-here (told_finish (length cs)) []))
@@ -55,11 +55,11 @@ module _ (setups : List Setup) (cs : List Chunk) (p : Pipeline) (are : IsPipelin
   abbrev pub MeasuresFor : Who → Kind → Type 0
   MeasuresFor who b = b ≡ kind.Lines (record { identity = who })
 
-  pub lines_goes : (place : ℕ) (who : Who) (s : Setup) → who.peers ≡ p.collector ∷ [] → s.kind ≡ name.Lines → (b : Kind) (i : PlainInput) → MeasuresFor who b → comes_as cs (Some s) i ≡ true
+  pub lines_goes : (place : ℕ) (who : Who) (s : Setup) → who.peers ≡ p.collector ∷ [] → s.kind ≡ name.Lines → (b : Kind) (i : PlainInput) → MeasuresFor who b → comes_as cs place (Some s) i ≡ true
       → Goes setups cs place (MeasuresFor who) b i
   lines_goes place who s peers is b i inv e =
       subst (λ (k : Kind). Goes setups cs place (MeasuresFor who) k i) (sym inv)
-      (at_content setups cs (Goes setups cs place (MeasuresFor who) (kind.Lines me)) s name.Lines is told (λ o words zero has. absurd (contains-none words has)) i e)
+      (at_content setups cs place (Goes setups cs place (MeasuresFor who) (kind.Lines me)) s name.Lines is told (λ o words zero has. absurd (contains-none words has)) i e)
     where
       me : Lines
       me = record { identity = who }
@@ -79,7 +79,7 @@ module _ (setups : List Setup) (cs : List Chunk) (p : Pipeline) (are : IsPipelin
       → AlwaysKeeps (comes setups cs) kind_rules place (kind.Lines (record { identity = who }))
   lines_keeps who place s at is peers =
       always_keeps setups cs place (MeasuresFor who) (λ b inv ids. ap (λ (k : Kind). kind_rules.skips k ids) inv)
-      (λ b i inv e. lines_goes place who s peers is b i inv (sym (ap (λ (o : Option Setup). comes_as cs o i) at) ∙ e)) (kind.Lines (record { identity = who })) refl
+      (λ b i inv e. lines_goes place who s peers is b i inv (sym (ap (λ (o : Option Setup). comes_as cs place o i) at) ∙ e)) (kind.Lines (record { identity = who })) refl
 
   -- ---- the relay
 
@@ -91,11 +91,11 @@ module _ (setups : List Setup) (cs : List Chunk) (p : Pipeline) (are : IsPipelin
   got (x ∷ xs) zero low = (x, refl, contains-here x xs)
   got (x ∷ xs) (suc k) low = let rest = got xs k (omega (arith, low)) in (rest.0, rest.1, contains-later x rest.0 xs rest.2)
 
-  pub relay_goes : (place : ℕ) (who : Who) (s : Setup) → who.peers ≡ p.counters → s.kind ≡ name.Relay → (b : Kind) (i : PlainInput) → RelaysFor who b → comes_as cs (Some s) i ≡ true
+  pub relay_goes : (place : ℕ) (who : Who) (s : Setup) → who.peers ≡ p.counters → s.kind ≡ name.Relay → (b : Kind) (i : PlainInput) → RelaysFor who b → comes_as cs place (Some s) i ≡ true
       → Goes setups cs place (RelaysFor who) b i
   relay_goes place who s peers is b i inv e =
       subst (λ (k : Kind). Goes setups cs place (RelaysFor who) k i) (sym inv)
-      (at_content setups cs (Goes setups cs place (RelaysFor who) (kind.Relay me)) s name.Relay is told (λ o words zero has. absurd (contains-none words has)) i e)
+      (at_content setups cs place (Goes setups cs place (RelaysFor who) (kind.Relay me)) s name.Relay is told (λ o words zero has. absurd (contains-none words has)) i e)
     where
       me : Relay
       me = record { identity = who }
@@ -117,7 +117,7 @@ module _ (setups : List Setup) (cs : List Chunk) (p : Pipeline) (are : IsPipelin
       → AlwaysKeeps (comes setups cs) kind_rules place (kind.Relay (record { identity = who }))
   relay_keeps who place s at is peers =
       always_keeps setups cs place (RelaysFor who) (λ b inv ids. ap (λ (k : Kind). kind_rules.skips k ids) inv)
-      (λ b i inv e. relay_goes place who s peers is b i inv (sym (ap (λ (o : Option Setup). comes_as cs o i) at) ∙ e)) (kind.Relay (record { identity = who })) refl
+      (λ b i inv e. relay_goes place who s peers is b i inv (sym (ap (λ (o : Option Setup). comes_as cs place o i) at) ∙ e)) (kind.Relay (record { identity = who })) refl
 
   -- ---- counters
 
@@ -126,11 +126,11 @@ module _ (setups : List Setup) (cs : List Chunk) (p : Pipeline) (are : IsPipelin
     pub count : ℕ
     pub is : b ≡ kind.Counter (record { identity = who; count = count })
 
-  pub counter_goes : (place : ℕ) (who : Who) (s : Setup) → who.peers ≡ p.collector ∷ [] → s.kind ≡ name.Counter → (b : Kind) (i : PlainInput) → CountsFor who b → comes_as cs (Some s) i ≡ true
+  pub counter_goes : (place : ℕ) (who : Who) (s : Setup) → who.peers ≡ p.collector ∷ [] → s.kind ≡ name.Counter → (b : Kind) (i : PlainInput) → CountsFor who b → comes_as cs place (Some s) i ≡ true
       → Goes setups cs place (CountsFor who) b i
   counter_goes place who s peers is b i inv e =
       subst (λ (k : Kind). Goes setups cs place (CountsFor who) k i) (sym inv.is)
-      (at_content setups cs (Goes setups cs place (CountsFor who) (kind.Counter me)) s name.Counter is told (λ o words zero has. absurd (contains-none words has)) i e)
+      (at_content setups cs place (Goes setups cs place (CountsFor who) (kind.Counter me)) s name.Counter is told (λ o words zero has. absurd (contains-none words has)) i e)
     where
       me : Counter
       me = record { identity = who; count = inv.count }
@@ -150,4 +150,4 @@ module _ (setups : List Setup) (cs : List Chunk) (p : Pipeline) (are : IsPipelin
       → AlwaysKeeps (comes setups cs) kind_rules place (kind.Counter (record { identity = who; count = 0 }))
   counter_keeps who place s at is peers =
       always_keeps setups cs place (CountsFor who) (λ b inv ids. ap (λ (k : Kind). kind_rules.skips k ids) inv.is)
-      (λ b i inv e. counter_goes place who s peers is b i inv (sym (ap (λ (o : Option Setup). comes_as cs o i) at) ∙ e)) (kind.Counter (record { identity = who; count = 0 })) (record { count = 0; is = refl })
+      (λ b i inv e. counter_goes place who s peers is b i inv (sym (ap (λ (o : Option Setup). comes_as cs place o i) at) ∙ e)) (kind.Counter (record { identity = who; count = 0 })) (record { count = 0; is = refl })

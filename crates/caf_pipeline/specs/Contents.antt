@@ -34,14 +34,15 @@ relayed c = chunk_content (lowered c)
 abbrev pub counted : Chunk → List ℕ
 counted c = told_postings (lowered c)
 
--- contents that are no requests
-abbrev pub told_to : List Chunk → KindName → List (List ℕ)
-told_to cs name.Source = start_content ∷ more_content ∷ []
-told_to cs name.Lines = map chunk_content cs
-told_to cs name.Relay = map chunk_content cs
-told_to cs name.Counter = map relayed cs
-told_to cs name.Collector = map counted cs ++ (map told_extent cs ++ told_finish (length cs) ∷ [])
-told_to cs _ = []
+-- contents that are no requests: `own` are those that it tells itself
+abbrev pub told_to : List Chunk → KindName → Bool → List (List ℕ)
+told_to cs name.Source true = more_content ∷ []
+told_to cs name.Source false = start_content ∷ []
+told_to cs name.Lines own = map chunk_content cs
+told_to cs name.Relay own = map chunk_content cs
+told_to cs name.Counter own = map relayed cs
+told_to cs name.Collector own = map counted cs ++ (map told_extent cs ++ told_finish (length cs) ∷ [])
+told_to cs _ own = []
 
 -- requests of place 0
 abbrev pub asked_of : KindName → List (List ℕ)
@@ -52,17 +53,17 @@ abbrev pub is_one_of : List ℕ → List (List ℕ) → Bool
 is_one_of words contents = list_any (bytes_eq words) contents
 
 -- where no setup stands is the conductor, to which Start and replies come
-abbrev pub comes_as : List Chunk → Option Setup → PlainInput → Bool
-comes_as cs None Start = true
-comes_as cs None (Response tag words) = true
-comes_as cs None (Failed tag sec) = true
-comes_as cs None _ = false
-comes_as cs (Some s) (Content origin words) =
-    (not (is_asked origin) && is_one_of words (told_to cs s.kind)) || ((origin.mid.requester == 0) && is_one_of words (asked_of s.kind))
-comes_as cs (Some s) _ = false
+abbrev pub comes_as : List Chunk → ℕ → Option Setup → PlainInput → Bool
+comes_as cs place None Start = true
+comes_as cs place None (Response tag words) = true
+comes_as cs place None (Failed tag sec) = true
+comes_as cs place None _ = false
+comes_as cs place (Some s) (Content origin words) =
+    (not (is_asked origin) && is_one_of words (told_to cs s.kind (origin.sender == place))) || ((origin.mid.requester == 0) && is_one_of words (asked_of s.kind))
+comes_as cs place (Some s) _ = false
 
 abbrev pub comes : List Setup → List Chunk → ℕ → PlainInput → Bool
-comes setups cs place i = comes_as cs (setup_at setups place) i
+comes setups cs place i = comes_as cs place (setup_at setups place) i
 
 -- ---- records
 
