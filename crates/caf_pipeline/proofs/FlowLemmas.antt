@@ -69,7 +69,7 @@ module _ (setups : List Setup) (cs : List Chunk) (place : ℕ) (s : Setup) (ther
   as_content e brings =
       subst (λ (o : Option Setup). BringsContent (comes_as cs place o) e) (sym there) (brings_content cs place s e (subst (λ (o : Option Setup). Brings (comes_as cs place o) e) there brings))
 
-  one_reads : (o : Outlined Kind) (e : Taken) (words : List ℕ) → e.body ≡ «plain».Content words → e.mid.response ≡ false → read_one kind_rules o e ≡ content kind_rules o (origin_of e) words
+  pub one_reads : (o : Outlined Kind) (e : Taken) (words : List ℕ) → e.body ≡ «plain».Content words → e.mid.response ≡ false → read_one kind_rules o e ≡ content kind_rules o (origin_of e) words
   one_reads o e words body told = ap (read_body kind_rules o (origin_of e)) body ∙ rw told refl
 
   pub one_leads : (o : Outlined Kind) (e : Taken) → Inv o.outline.behavior → (is : BringsContent (comes setups cs place) e) → (read_one kind_rules o e).outline.behavior ≡ kind_rules.next o.outline.behavior (Content (origin_of e) is.words)
@@ -83,7 +83,7 @@ module _ (setups : List Setup) (cs : List Chunk) (place : ℕ) (s : Setup) (ther
       subst Inv (sym (one_leads o e inv is)) (goes o.outline.behavior (Content (origin_of e) is.words) inv is.comes).next
 
   module _ (to : ℕ) (said : List ℕ) where
-    one_told : (o : Outlined Kind) (e : Taken) → Inv o.outline.behavior → Brings (comes setups cs place) e → HasTold to said o.sent → HasTold to said (read_one kind_rules o e).sent
+    pub one_told : (o : Outlined Kind) (e : Taken) → Inv o.outline.behavior → Brings (comes setups cs place) e → HasTold to said o.sent → HasTold to said (read_one kind_rules o e).sent
     one_told o e inv brings told =
         let is = as_content e brings in
         let go = goes o.outline.behavior (Content (origin_of e) is.words) inv is.comes in

@@ -22,3 +22,4 @@ pub mod CollectedLemmas
 pub mod ChunkLemmas
 pub mod EntryLemmas
 pub mod IndexedLemmas
+pub mod ProgressLemmas

@@ -9,6 +9,8 @@ use Rattle.caf_kinds.specs.Kinds.{kind_rules, index_of}
 use Rattle.caf_kinds.specs.Pipeline.{chunk_content}
 use Rattle.caf_kinds.specs.declared.contents.Chunk.{Chunk}
 use Rattle.caf_kinds.specs.declared.kind.Kind.{Kind}
+use Rattle.caf_kinds.specs.declared.kind.Kind.TheVariants as kind
+use Rattle.caf_kinds.specs.declared.source.Stage.TheVariants as stage
 use Rattle.caf_kinds.specs.declared.script.Step.{Step}
 use Rattle.caf_kinds.specs.declared.setup.Setup.{Setup}
 use Rattle.caf_pipeline.specs.Undisturbed.{Pipeline}
@@ -26,3 +28,13 @@ abbrev pub RelayedFilesAreIndexed : Type 0
 RelayedFilesAreIndexed = (setups : List Setup) (script : List Step) (files : List (List ℕ)) (ticks : ℕ) (k : Kept (Snapshot Kind)) (ts : List Turn)
     → (is : IsUndisturbedRecord setups script files ticks k ts) → IsAtRest (machine_of kind_rules) k
     → IsRelayed k is.undisturbed.pipeline files → IsIndexed k is.undisturbed.pipeline files
+
+-- at its end the source has told all chunks
+abbrev pub HasToldAll : Kind → Type 0
+HasToldAll (kind.Source s) = s.stage ≡ stage.Done
+HasToldAll _ = ⊥
+
+abbrev pub ToldFilesAreIndexed : Type 0
+ToldFilesAreIndexed = (setups : List Setup) (script : List Step) (files : List (List ℕ)) (ticks : ℕ) (k : Kept (Snapshot Kind)) (ts : List Turn)
+    → (is : IsUndisturbedRecord setups script files ticks k ts) → IsAtRest (machine_of kind_rules) k
+    → HasToldAll (ends (machine_of kind_rules) k is.undisturbed.pipeline.source).behavior → IsIndexed k is.undisturbed.pipeline files
