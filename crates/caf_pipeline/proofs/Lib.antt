@@ -23,3 +23,4 @@ pub mod ChunkLemmas
 pub mod EntryLemmas
 pub mod IndexedLemmas
 pub mod ProgressLemmas
+pub mod DoneLemmas

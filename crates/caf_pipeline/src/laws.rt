@@ -2,7 +2,7 @@
 ghost use Rattle.caf_pipeline.specs.BuiltIn.{BuiltInIsUndisturbed};
 ghost use Rattle.caf_pipeline.specs.Contents.{PartsTakeTheirContents};
 ghost use Rattle.caf_pipeline.specs.Flow.{RelayedChunksAreCollected};
-ghost use Rattle.caf_pipeline.specs.Indexed.{RelayedFilesAreIndexed};
+ghost use Rattle.caf_pipeline.specs.Indexed.{RelayedFilesAreIndexed, ToldFilesAreIndexed};
 ghost use Rattle.caf_pipeline.specs.Parts.{PartsHandOn};
 ghost use Rattle.caf_pipeline.specs.Postings.{PostingsFitAMessage};
 ghost use Rattle.caf_pipeline.specs.Sent.{UndisturbedScriptIsSent};
@@ -51,4 +51,10 @@ pub fn relayed_chunks_are_collected()
 /// of the files, whatever the order in which anything was taken.
 pub fn relayed_files_are_indexed()
     ensures { RelayedFilesAreIndexed }
+{}
+
+/// Where such a record is at rest and the source has told all chunks, the collector's index is the plain index of the
+/// files.
+pub fn told_files_are_indexed()
+    ensures { ToldFilesAreIndexed }
 {}
