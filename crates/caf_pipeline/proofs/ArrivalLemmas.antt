@@ -15,7 +15,7 @@ use Rattle.caf_steady.specs.Reading.{in_turn, all_in_turn}
 
 -- ---- what comes from a place
 
-from_has : (a : ℕ) (es : List Taken) (e : Taken) → Contains (from_place a es) e → Contains es e
+pub from_has : (a : ℕ) (es : List Taken) (e : Taken) → Contains (from_place a es) e → Contains es e
 from_has a [] e has = has
 from_has a (x ∷ xs) e has = go (x.sender == a) has (from_has a xs e)
   where
@@ -26,7 +26,7 @@ from_has a (x ∷ xs) e has = go (x.sender == a) has (from_has a xs e)
     ]
     go false has later = contains-later x e xs (later has)
 
-to_has : (ps : List PlainPost) (p : PlainPost) → Contains ps p → Contains (to_place p.to ps) p.envelope
+pub to_has : (ps : List PlainPost) (p : PlainPost) → Contains ps p → Contains (to_place p.to ps) p.envelope
 to_has [] p has = absurd (contains-none p has)
 to_has (x ∷ xs) p has = go (x.to == p.to) refl (contains-cases x p xs has) (to_has xs p)
   where
@@ -39,7 +39,7 @@ to_has (x ∷ xs) p has = go (x.to == p.to) refl (contains-cases x p xs has) (to
 -- ---- at rest
 
 module _ {S : Type 0} (m : Machine S) (ticks : ℕ) (k : Kept S) (legal : IsLegal m ticks k) (rest : IsAtRest m k) where
-  all_taken : (a b : ℕ) → sent_by m k a b ≡ taken_by k a b
+  pub all_taken : (a b : ℕ) → sent_by m k a b ≡ taken_by k a b
   all_taken a b =
       let parts = legal.pairs a b in
       let left : parts.0 ≡ [] = sym (drop-append_seam (taken_by k a b) parts.0) ∙ ap (drop (length (taken_by k a b))) parts.1 ∙ rest.taken a b in
@@ -63,7 +63,7 @@ filter_has test (x ∷ xs) e passes has = go (test x) refl (contains-cases x e x
     go false q (inl is) later = let yes : test x ≡ true = ap test is ∙ passes in let bad : false ≡ true = sym q ∙ yes in absurd cc
     go false q (inr more) later = rw q (later more)
 
-turn_has : (es : List Taken) (e : Taken) → Contains es e → Contains (in_turn es) e
+pub turn_has : (es : List Taken) (e : Taken) → Contains es e → Contains (in_turn es) e
 turn_has es e has = go (is_urgent e) refl
   where
     go : (b : Bool) → is_urgent e ≡ b → Contains (in_turn es) e

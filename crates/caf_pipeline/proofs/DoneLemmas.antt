@@ -77,6 +77,10 @@ module _ (setups : List Setup) (script : List Step) (files : List (List ℕ)) (t
       let stand = starts setups script files ticks k ts is src up at in
       record { source = source.started who stand.own; is = as_source; identity = refl; chunks = ap all_chunks (stand.all is.undisturbed.actors.source.kind_is) }
 
+  pub source_waits : begins_source.source.stage ≡ stage.Waiting
+  unfolding begins_source
+  source_waits = refl
+
   pub progress_at_end : Progress setups (all_chunks files) is.undisturbed.pipeline is.undisturbed.actors (chunks setups script files ticks k ts is) src who refl refl is.undisturbed.actors.source.peers_are up is.undisturbed.actors.source.at is.undisturbed.actors.source.kind_is
       (reading kind_rules (k.start src) (k.journal src))
   unfolding begins_source

@@ -89,7 +89,7 @@ module _ (setups : List Setup) (cs : List Chunk) (place : ℕ) (s : Setup) (ther
         let go = goes o.outline.behavior (Content (origin_of e) is.words) inv is.comes in
         subst (λ (x : Outlined Kind). HasTold to said x.sent) (sym (one_reads o e is.words is.body_is is.no_reply)) (content_on to said kind_rules o (origin_of e) is.words go.taken told)
 
-    all_told : (o : Outlined Kind) (es : List Taken) → Inv o.outline.behavior → AllByRecursion (Brings (comes setups cs place)) es → HasTold to said o.sent → HasTold to said (read kind_rules o es).sent
+    pub all_told : (o : Outlined Kind) (es : List Taken) → Inv o.outline.behavior → AllByRecursion (Brings (comes setups cs place)) es → HasTold to said o.sent → HasTold to said (read kind_rules o es).sent
     all_told o [] inv all told = told
     all_told o (e ∷ es) inv all told = all_told (read_one kind_rules o e) es (one_stays o e inv all.0) all.1 (one_told o e inv all.0 told)
 

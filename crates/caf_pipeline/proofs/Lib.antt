@@ -24,3 +24,5 @@ pub mod EntryLemmas
 pub mod IndexedLemmas
 pub mod ProgressLemmas
 pub mod DoneLemmas
+pub mod GoingLemmas
+pub mod RestLemmas

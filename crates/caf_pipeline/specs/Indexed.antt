@@ -38,3 +38,13 @@ abbrev pub ToldFilesAreIndexed : Type 0
 ToldFilesAreIndexed = (setups : List Setup) (script : List Step) (files : List (List ℕ)) (ticks : ℕ) (k : Kept (Snapshot Kind)) (ts : List Turn)
     → (is : IsUndisturbedRecord setups script files ticks k ts) → IsAtRest (machine_of kind_rules) k
     → HasToldAll (ends (machine_of kind_rules) k is.undisturbed.pipeline.source).behavior → IsIndexed k is.undisturbed.pipeline files
+
+-- at its end the source was told to start
+abbrev pub HasStarted : Kind → Type 0
+HasStarted (kind.Source s) = s.stage ≡ stage.Waiting → ⊥
+HasStarted _ = ⊥
+
+abbrev pub StartedFilesAreIndexed : Type 0
+StartedFilesAreIndexed = (setups : List Setup) (script : List Step) (files : List (List ℕ)) (ticks : ℕ) (k : Kept (Snapshot Kind)) (ts : List Turn)
+    → (is : IsUndisturbedRecord setups script files ticks k ts) → IsAtRest (machine_of kind_rules) k
+    → HasStarted (ends (machine_of kind_rules) k is.undisturbed.pipeline.source).behavior → IsIndexed k is.undisturbed.pipeline files

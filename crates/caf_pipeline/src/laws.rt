@@ -2,7 +2,7 @@
 ghost use Rattle.caf_pipeline.specs.BuiltIn.{BuiltInIsUndisturbed};
 ghost use Rattle.caf_pipeline.specs.Contents.{PartsTakeTheirContents};
 ghost use Rattle.caf_pipeline.specs.Flow.{RelayedChunksAreCollected};
-ghost use Rattle.caf_pipeline.specs.Indexed.{RelayedFilesAreIndexed, ToldFilesAreIndexed};
+ghost use Rattle.caf_pipeline.specs.Indexed.{RelayedFilesAreIndexed, StartedFilesAreIndexed, ToldFilesAreIndexed};
 ghost use Rattle.caf_pipeline.specs.Parts.{PartsHandOn};
 ghost use Rattle.caf_pipeline.specs.Postings.{PostingsFitAMessage};
 ghost use Rattle.caf_pipeline.specs.Sent.{UndisturbedScriptIsSent};
@@ -57,4 +57,10 @@ pub fn relayed_files_are_indexed()
 /// files.
 pub fn told_files_are_indexed()
     ensures { ToldFilesAreIndexed }
+{}
+
+/// Where such a record is at rest and the source was told to start, the collector's index is the plain index of the
+/// files: at rest no source is still telling.
+pub fn started_files_are_indexed()
+    ensures { StartedFilesAreIndexed }
 {}
