@@ -26,3 +26,4 @@ pub mod ProgressLemmas
 pub mod DoneLemmas
 pub mod GoingLemmas
 pub mod RestLemmas
+pub mod BegunLemmas

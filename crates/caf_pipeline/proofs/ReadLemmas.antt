@@ -180,7 +180,7 @@ module _ {S : Type 0} (place : ℕ) (said : List ℕ) where
   output_now o (Delay ticks to priority words) does = absurd does
   output_now o (Within ticks to priority mode tag expected words) does = absurd does
 
-  outputs_now : (o : Outlined S) (all : List PlainOutput) (one : PlainOutput) → Contains all one → DoesTell place said one → Told (send_outputs o all)
+  pub outputs_now : (o : Outlined S) (all : List PlainOutput) (one : PlainOutput) → Contains all one → DoesTell place said one → Told (send_outputs o all)
   outputs_now o [] one has does = absurd (contains-none one has)
   outputs_now o (x ∷ xs) one has does = elim (contains-cases x one xs has) [
     | inl is ↦ outputs_on (send_output o x) xs (output_now o x (subst (DoesTell place said) (sym is) does))

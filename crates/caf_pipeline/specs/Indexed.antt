@@ -48,3 +48,8 @@ abbrev pub StartedFilesAreIndexed : Type 0
 StartedFilesAreIndexed = (setups : List Setup) (script : List Step) (files : List (List ℕ)) (ticks : ℕ) (k : Kept (Snapshot Kind)) (ts : List Turn)
     → (is : IsUndisturbedRecord setups script files ticks k ts) → IsAtRest (machine_of kind_rules) k
     → HasStarted (ends (machine_of kind_rules) k is.undisturbed.pipeline.source).behavior → IsIndexed k is.undisturbed.pipeline files
+
+-- whatever the order in which anything was taken
+abbrev pub UndisturbedFilesAreIndexed : Type 0
+UndisturbedFilesAreIndexed = (setups : List Setup) (script : List Step) (files : List (List ℕ)) (ticks : ℕ) (k : Kept (Snapshot Kind)) (ts : List Turn)
+    → (is : IsUndisturbedRecord setups script files ticks k ts) → IsAtRest (machine_of kind_rules) k → IsIndexed k is.undisturbed.pipeline files
