@@ -123,7 +123,7 @@ module _ (setups : List Setup) (script : List Step) (files : List (List ℕ)) (t
     | inr later ↦ begins_at (read_one kind_rules o x) xs e all.1 (stays o x all.0 inv) later body
   ]
 
-  started : HasTaken k σ start_content → HasStarted (ends (machine_of kind_rules) k σ).behavior
+  pub started : HasTaken k σ start_content → HasStarted (ends (machine_of kind_rules) k σ).behavior
   started taken =
       let has_read = read_at setups script files ticks k ts is σ (up setups script files ticks k ts is) is.undisturbed.actors.source.at in
       let all = in_turns setups cs σ (up setups script files ticks k ts is) is.undisturbed.actors.source.at Src my_goes σ [] (k.journal σ) (brought setups script files ticks k ts is σ) in

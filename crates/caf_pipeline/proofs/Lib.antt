@@ -27,3 +27,4 @@ pub mod DoneLemmas
 pub mod GoingLemmas
 pub mod RestLemmas
 pub mod BegunLemmas
+pub mod UndisturbedLemmas

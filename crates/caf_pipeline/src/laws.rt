@@ -2,7 +2,7 @@
 ghost use Rattle.caf_pipeline.specs.BuiltIn.{BuiltInIsUndisturbed};
 ghost use Rattle.caf_pipeline.specs.Contents.{PartsTakeTheirContents};
 ghost use Rattle.caf_pipeline.specs.Flow.{RelayedChunksAreCollected};
-ghost use Rattle.caf_pipeline.specs.Indexed.{RelayedFilesAreIndexed, StartedFilesAreIndexed, ToldFilesAreIndexed};
+ghost use Rattle.caf_pipeline.specs.Indexed.{RelayedFilesAreIndexed, StartedFilesAreIndexed, ToldFilesAreIndexed, UndisturbedFilesAreIndexed};
 ghost use Rattle.caf_pipeline.specs.Parts.{PartsHandOn};
 ghost use Rattle.caf_pipeline.specs.Postings.{PostingsFitAMessage};
 ghost use Rattle.caf_pipeline.specs.Sent.{UndisturbedScriptIsSent};
@@ -63,4 +63,10 @@ pub fn told_files_are_indexed()
 /// files: at rest no source is still telling.
 pub fn started_files_are_indexed()
     ensures { StartedFilesAreIndexed }
+{}
+
+/// Where a legal record over the opening of an undisturbed run is at rest, in which no tick and no Stop was taken, the
+/// collector's index is the plain index of the files, whatever the order in which anything was taken.
+pub fn undisturbed_files_are_indexed()
+    ensures { UndisturbedFilesAreIndexed }
 {}
