@@ -1,19 +1,13 @@
 -- A source that took [start] is past waiting for it, and the conductor tells it that at Start.
-use Rattle.std.proofs.Common.{◌≡◌, ℕ, ◌+◌, ◌<◌, ◌==◌, Bool, true, false, List, [], ◌∷◌, ◌++◌, length, Some, inl, inr, refl, sym, subst, ap, ◌∙◌, arith}
+use Rattle.std.proofs.Common.{◌≡◌, ℕ, ◌==◌, Bool, true, false, List, [], ◌∷◌, inl, inr, refl, sym, subst, ap, ◌∙◌}
 use Rattle.std.specs.Prelude.{Contains, ◌⊎◌}
 use Rattle.std.specs.List.{AllByRecursion}
-use Rattle.std.proofs.lemmas.List.{append-nil}
-use Rattle.std.proofs.lemmas.List.Elements.{Contains-append_left}
-use Rattle.caf_index.proofs.ContainsLemmas.{contains-none, contains-here, contains-cases}
-use Rattle.caf_message.specs.Envelope.{outside, start_envelope}
-use Rattle.caf_message.specs.declared.envelope.Plain.{Plain}
+use Rattle.caf_index.proofs.ContainsLemmas.{contains-none, contains-cases}
 use Rattle.caf_message.specs.declared.envelope.Plain.TheVariants as «plain»
 use Rattle.caf_message.specs.declared.envelope.Taken.{Taken}
-use Rattle.caf_types.specs.declared.notice.Notice.TheVariants as notice
 use Rattle.caf_actor.specs.Answering.{origin_of}
-use Rattle.caf_actor.specs.PlainInput.{PlainInput, Start, Content}
-use Rattle.caf_actor.specs.PlainOutput.{PlainOutput, Tell}
-use Rattle.caf_actor.specs.Record.{Kept, machine_of, IsAtRest, ends, heard, joined, sent}
+use Rattle.caf_actor.specs.PlainInput.{PlainInput, Content}
+use Rattle.caf_actor.specs.Record.{Kept, machine_of, ends}
 use Rattle.caf_actor.specs.Run.{Turn}
 use Rattle.caf_actor.specs.declared.snapshot.Snapshot.{Snapshot}
 use Rattle.caf_kinds.specs.FileChunks.{all_chunks}
@@ -27,29 +21,20 @@ use Rattle.caf_kinds.specs.declared.setup.KindName.TheVariants as name
 use Rattle.caf_kinds.specs.declared.setup.Setup.{Setup}
 use Rattle.caf_kinds.specs.declared.source.Stage.{Stage}
 use Rattle.caf_kinds.specs.declared.source.Stage.TheVariants as stage
-use Rattle.caf_opening.specs.Opening.{conductor_at_0, who_conducts}
-use Rattle.caf_steady.specs.Outline.{Outline, Outlined, with_outline, outline_of}
+use Rattle.caf_steady.specs.Outline.{Outline, Outlined, outline_of}
 use Rattle.caf_steady.specs.Reading.{read, read_one, all_in_turn}
-use Rattle.caf_steady.specs.Steady.{Brings, BodyBrings, HasRead, IsSteady}
-use Rattle.caf_steady.proofs.ClassLemmas.{steady_behavior}
-use Rattle.caf_steady.proofs.FrameLemmas.{behind, read_behind}
-use Rattle.caf_steady.proofs.ReadingLemmas.{reads_in_turn}
-use Rattle.caf_pipeline.specs.Undisturbed.{Pipeline}
+use Rattle.caf_steady.specs.Steady.{Brings}
 use Rattle.caf_pipeline.specs.Contents.{told_to, comes}
 use Rattle.caf_pipeline.specs.Parts.{start_content}
-use Rattle.caf_pipeline.specs.Sent.{AreSent}
 use Rattle.caf_pipeline.specs.Flow.{HasTaken, IsUndisturbedRecord}
-use Rattle.caf_pipeline.specs.Indexed.{HasStarted, UndisturbedFilesAreIndexed}
-use Rattle.caf_pipeline.proofs.ArrivalLemmas.{all_taken, all_turns_have, from_has}
-use Rattle.caf_pipeline.proofs.CollectedLemmas.{chunks, brought, steady}
-use Rattle.caf_pipeline.proofs.DoneLemmas.{src, up, who, read_at, told_arrives, begins_source}
+use Rattle.caf_pipeline.specs.Indexed.{HasStarted}
+use Rattle.caf_pipeline.proofs.ArrivalLemmas.{all_turns_have}
+use Rattle.caf_pipeline.proofs.CollectedLemmas.{chunks, brought}
+use Rattle.caf_pipeline.proofs.DoneLemmas.{src, up, who, read_at, begins_source}
 use Rattle.caf_pipeline.proofs.ClassLemmas.{Goes}
 use Rattle.caf_pipeline.proofs.FlowLemmas.{BringsContent, as_content, one_leads, one_stays, in_turns}
 use Rattle.caf_pipeline.proofs.GoingLemmas.{Sources, going}
 use Rattle.caf_pipeline.proofs.ProgressLemmas.{is_told}
-use Rattle.caf_pipeline.proofs.ReadLemmas.{HasTold, DoesTell, outputs_now}
-use Rattle.caf_pipeline.proofs.RestLemmas.{started_files_are_indexed}
-use Rattle.caf_pipeline.proofs.SentLemmas.{script_is_sent}
 
 -- ---- the source
 

@@ -21,7 +21,6 @@ use Rattle.caf_kinds.specs.Collector.{asking_index, asking_totals}
 use Rattle.caf_kinds.specs.Conductor.{Conducting, plays}
 use Rattle.caf_kinds.specs.Kinds.{kind_rules, reacted, as_kind}
 use Rattle.caf_kinds.specs.Planning.{planned_from, conductor_of}
-use Rattle.caf_kinds.specs.Source.{more_content}
 use Rattle.caf_kinds.specs.Who.{Who}
 use Rattle.caf_kinds.specs.declared.contents.Chunk.{Chunk}
 use Rattle.caf_kinds.specs.declared.kind.Kind.{Kind}

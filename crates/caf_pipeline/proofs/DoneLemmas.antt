@@ -1,10 +1,9 @@
 -- A source that has told all leaves the relay with all chunks, where all is at rest.
-use Rattle.std.proofs.Common.{◌≡◌, ℕ, ◌≤◌, List, [], length, take, Some, refl, sym, subst, ap, ◌∙◌}
+use Rattle.std.proofs.Common.{◌≡◌, ℕ, List, [], take, Some, refl, sym, subst, ap, ◌∙◌}
 use Rattle.std.specs.Prelude.{Contains}
-use Rattle.std.specs.List.{AllByRecursion}
 use Rattle.std.proofs.lemmas.List.{take_all}
 use Rattle.caf_index.proofs.ContainsLemmas.{contains-none, from-map}
-use Rattle.caf_actor.specs.Record.{Kept, machine_of, IsLegal, IsAtRest, ends, joined, posted}
+use Rattle.caf_actor.specs.Record.{Kept, machine_of, IsAtRest, ends, joined, posted}
 use Rattle.caf_actor.specs.Run.{Turn}
 use Rattle.caf_actor.specs.declared.snapshot.Snapshot.{Snapshot}
 use Rattle.caf_kinds.specs.FileChunks.{all_chunks}
@@ -22,9 +21,9 @@ use Rattle.caf_kinds.specs.declared.script.Step.{Step}
 use Rattle.caf_kinds.specs.declared.setup.KindName.TheVariants as name
 use Rattle.caf_kinds.specs.declared.setup.Setup.{Setup}
 use Rattle.caf_kinds.specs.declared.source.Stage.TheVariants as stage
-use Rattle.caf_steady.specs.Outline.{Outline, Outlined, Bare, outline_of, bare}
-use Rattle.caf_steady.specs.Reading.{read, all_in_turn}
-use Rattle.caf_steady.specs.Steady.{Brings, HasRead, IsSteady, reading}
+use Rattle.caf_steady.specs.Outline.{Outline, Bare, outline_of, bare}
+use Rattle.caf_steady.specs.Reading.{all_in_turn}
+use Rattle.caf_steady.specs.Steady.{HasRead, IsSteady, reading}
 use Rattle.caf_steady.proofs.ClassLemmas.{steady_behavior}
 use Rattle.caf_steady.proofs.ReadingLemmas.{reads_in_turn}
 use Rattle.caf_pipeline.specs.Contents.{comes}

@@ -1,16 +1,15 @@
 -- A source that is telling has told itself to go on, and hasn't taken that yet; so at rest none is telling.
-use Rattle.std.proofs.Common.{◌≡◌, ℕ, zero, suc, ◌<◌, ◌==◌, ◌&&◌, Bool, true, false, List, [], ◌∷◌, ◌++◌, length, map, drop, Option, Some, inl, inr, refl, sym, subst, ap, ◌∙◌}
-use Rattle.std.specs.Prelude.{Contains, ◌⊎◌, filter, not, if◌then◌else◌}
+use Rattle.std.proofs.Common.{◌≡◌, ℕ, ◌==◌, Bool, true, false, List, [], ◌∷◌, ◌++◌, length, map, drop, Some, inl, inr, refl, sym, subst, ap, ◌∙◌}
+use Rattle.std.specs.Prelude.{Contains, ◌⊎◌}
 use Rattle.std.specs.List.{AllByRecursion}
 use Rattle.std.proofs.lemmas.List.Elements.{Contains-append_left, Contains-append_right}
 use Rattle.caf_index.proofs.ContainsLemmas.{contains-none, contains-here, contains-cases, from-map}
-use Rattle.caf_mailbox.specs.Caches.{nothing_cached, is_urgent, is_normal}
+use Rattle.caf_mailbox.specs.Caches.{nothing_cached}
 use Rattle.caf_message.specs.declared.envelope.Taken.{Taken}
 use Rattle.caf_actor.specs.Answering.{origin_of}
 use Rattle.caf_actor.specs.Drain.{batch_of}
 use Rattle.caf_actor.specs.PlainInput.{PlainInput, Content}
 use Rattle.caf_actor.specs.PlainOutput.{PlainOutput}
-use Rattle.caf_actor.specs.PlainPost.{PlainPost}
 use Rattle.caf_actor.specs.Record.{from_place, to_place}
 use Rattle.caf_actor.specs.declared.snapshot.Snapshot.{Snapshot}
 use Rattle.caf_kinds.specs.FileChunks.{AreChunks}
@@ -25,7 +24,7 @@ use Rattle.caf_kinds.specs.declared.setup.KindName.TheVariants as name
 use Rattle.caf_kinds.specs.declared.setup.Setup.{Setup}
 use Rattle.caf_kinds.specs.declared.source.Stage.{Stage}
 use Rattle.caf_kinds.specs.declared.source.Stage.TheVariants as stage
-use Rattle.caf_steady.specs.Outline.{Outlined, Bare, outline_of, outlined, bare}
+use Rattle.caf_steady.specs.Outline.{Outlined, Bare, outline_of, bare}
 use Rattle.caf_steady.specs.Reading.{read, read_one, in_turn}
 use Rattle.caf_steady.specs.Steady.{Brings, IsSteady}
 use Rattle.caf_steady.proofs.ReadingLemmas.{batch_read, brought_in_turn}
@@ -80,12 +79,12 @@ module _ (setups : List Setup) (cs : List Chunk) (p : Pipeline) (are : IsPipelin
     inv_after = record { source = after; is = one_leads setups cs place s there Sources going o e inv b ∙ ap (λ (x : Kind). kind_rules.next x (Content (origin_of e) b.words)) inv.is ∙ next; identity = same; chunks = chunks };
     went = λ telling. elim (tells telling) [
       | inl has ↦
-        (let i : PlainInput = Content (origin_of e) b.words in
-        let go = going o.outline.behavior i inv b.comes in
-        let me : inv.source.identity.place ≡ place = ap (λ (w : Who). w.place) inv.identity ∙ at ∙ sym here in
-        inl (subst (λ (x : Outlined Kind). HasTold place more_content x.sent) (sym (one_reads setups cs place s there Sources going o e b.words b.body_is b.no_reply))
-        (content_now place more_content kind_rules o (origin_of e) b.words go.taken (tells_itself inv.source)
-        (subst (λ (x : Kind). Contains (kind_rules.reaction x i).outputs (tells_itself inv.source)) (sym inv.is) has) (me, refl))))
+          (let i : PlainInput = Content (origin_of e) b.words in
+          let go = going o.outline.behavior i inv b.comes in
+          let me : inv.source.identity.place ≡ place = ap (λ (w : Who). w.place) inv.identity ∙ at ∙ sym here in
+          inl (subst (λ (x : Outlined Kind). HasTold place more_content x.sent) (sym (one_reads setups cs place s there Sources going o e b.words b.body_is b.no_reply))
+          (content_now place more_content kind_rules o (origin_of e) b.words go.taken (tells_itself inv.source)
+          (subst (λ (x : Kind). Contains (kind_rules.reaction x i).outputs (tells_itself inv.source)) (sym inv.is) has) (me, refl))))
       | inr before ↦ inr (before.0, (before.1, tt))
     ];
   }
@@ -170,13 +169,13 @@ module _ (setups : List Setup) (cs : List Chunk) (p : Pipeline) (are : IsPipelin
         empty = done.handled;
         some = λ d. elim (go.went d) [
           | inl told ↦
-            (let sent = ap (λ (x : Outlined Kind). x.sent) done.told in
-            let from = from-map bare told.bare posts (subst (λ (bs : List Bare). Contains bs told.bare) (sym sent) told.is_sent) in
-            let to : from.0.to ≡ place = ap (λ (x : Bare). x.to) from.2 ∙ told.to_is in
-            (from.0.envelope, Contains-append_right left (to_place place posts) from.0.envelope (subst (λ (q : ℕ). Contains (to_place q posts) from.0.envelope) to (to_has posts from.0 from.1))))
+              (let sent = ap (λ (x : Outlined Kind). x.sent) done.told in
+              let from = from-map bare told.bare posts (subst (λ (bs : List Bare). Contains bs told.bare) (sym sent) told.is_sent) in
+              let to : from.0.to ≡ place = ap (λ (x : Bare). x.to) from.2 ∙ told.to_is in
+              (from.0.envelope, Contains-append_right left (to_place place posts) from.0.envelope (subst (λ (q : ℕ). Contains (to_place q posts) from.0.envelope) to (to_has posts from.0 from.1))))
           | inr before ↦
-            (let own = none_from place batch (λ e has. one_of (λ (x : Taken). (x.sender == place) ≡ false) (in_turn batch) e before.1 (turn_has batch e has)) in
-            let first = h.some before.0 in
-            (first.0, Contains-append_left left (to_place place posts) first.0 (subst (λ (es : List Taken). Contains (drop (length es) waiting) first.0) (sym own) first.1)))
+              (let own = none_from place batch (λ e has. one_of (λ (x : Taken). (x.sender == place) ≡ false) (in_turn batch) e before.1 (turn_has batch e has)) in
+              let first = h.some before.0 in
+              (first.0, Contains-append_left left (to_place place posts) first.0 (subst (λ (es : List Taken). Contains (drop (length es) waiting) first.0) (sym own) first.1)))
         ];
       }

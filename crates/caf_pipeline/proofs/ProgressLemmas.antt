@@ -1,15 +1,14 @@
 -- What a source has told when it is done: all of its chunks.
-use Rattle.std.proofs.Common.{◌≡◌, ℕ, zero, suc, ◌+◌, ◌-◌, ◌<◌, ◌≤◌, ◌==◌, Bool, true, false, List, [], ◌∷◌, ◌++◌, length, map, take, drop, Option, Some, inl, inr, refl, sym, subst, ap, ◌∙◌, arith}
+use Rattle.std.proofs.Common.{◌≡◌, ℕ, zero, suc, ◌+◌, ◌-◌, ◌≤◌, ◌==◌, Bool, true, false, List, [], ◌∷◌, ◌++◌, length, map, take, drop, Option, Some, inl, inr, refl, sym, subst, ap, ◌∙◌, arith}
 use Rattle.std.specs.Prelude.{Contains, ◌⊎◌}
 use Rattle.std.specs.List.{AllByRecursion}
-use Rattle.std.proofs.lemmas.List.{length-take, length-drop, take_all}
+use Rattle.std.proofs.lemmas.List.{length-take, length-drop}
 use Rattle.std.proofs.lemmas.List.Elements.{Contains-append_left}
 use Rattle.caf_index.proofs.ContainsLemmas.{contains-none, contains-here, contains-later, contains-cases, contains-map}
 use Rattle.caf_message.specs.declared.envelope.Taken.{Taken}
-use Rattle.caf_actor.specs.Answering.{is_asked, origin_of}
+use Rattle.caf_actor.specs.Answering.{origin_of}
 use Rattle.caf_actor.specs.PlainInput.{PlainInput, Content}
 use Rattle.caf_actor.specs.PlainOutput.{PlainOutput}
-use Rattle.caf_actor.specs.declared.origin.Origin.{Origin}
 use Rattle.caf_kinds.specs.FileChunks.{AreChunks}
 use Rattle.caf_kinds.specs.Kinds.{kind_rules}
 use Rattle.caf_kinds.specs.Pipeline.{chunk_content}
@@ -24,14 +23,14 @@ use Rattle.caf_kinds.specs.declared.setup.Setup.{Setup}
 use Rattle.caf_kinds.specs.declared.source.Stage.{Stage}
 use Rattle.caf_kinds.specs.declared.source.Stage.TheVariants as stage
 use Rattle.caf_steady.specs.Outline.{Outlined}
-use Rattle.caf_steady.specs.Reading.{read, read_one, content}
+use Rattle.caf_steady.specs.Reading.{read, read_one}
 use Rattle.caf_steady.specs.Steady.{Brings}
 use Rattle.caf_pipeline.specs.Undisturbed.{Pipeline, IsPipeline}
 use Rattle.caf_pipeline.specs.Parts.{start_content}
 use Rattle.caf_pipeline.specs.Contents.{told_to, comes_as, comes}
 use Rattle.caf_pipeline.proofs.ClassLemmas.{at_content, Goes}
 use Rattle.caf_pipeline.proofs.SourceLemmas.{SourcesFor, source_goes}
-use Rattle.caf_pipeline.proofs.ReadLemmas.{HasTold, DoesTell, content_now}
+use Rattle.caf_pipeline.proofs.ReadLemmas.{HasTold, content_now}
 use Rattle.caf_pipeline.proofs.FlowLemmas.{BringsContent, as_content, one_leads, one_reads, one_told}
 
 -- ---- the first of a list
@@ -109,12 +108,12 @@ module _ (setups : List Setup) (cs : List Chunk) (p : Pipeline) (are : IsPipelin
         told = λ c has. elim (take_parts src.told (length (next_chunks src)) cs c has) [
           | inl front ↦ one_told setups cs place s there (SourcesFor setups cs p are each who) goes p.relay (chunk_content c) o e h.inv brings (h.told c front)
           | inr back ↦
-            (let now : Contains (next_chunks src) c = take_more (length (next_chunks src)) 32 (drop src.told src.chunks) c (omega (arith, long)) (subst (λ (ds : List Chunk). Contains (take (length (next_chunks src)) (drop src.told ds)) c) (sym h.inv.chunks) back) in
-            let there_it : Contains (kind_rules.reaction o.outline.behavior i).outputs (tells_all src c) = subst (λ (os : List PlainOutput). Contains os (tells_all src c)) (sym outputs)
-                (Contains-append_left (map (tells_all src) (next_chunks src)) (follows src (chunks_left src)) (tells_all src c) (contains-map (tells_all src) c (next_chunks src) now)) in
-            let go = goes o.outline.behavior i h.inv b.comes in
-            subst (λ (x : Outlined Kind). HasTold p.relay (chunk_content c) x.sent) (sym (one_reads setups cs place s there (SourcesFor setups cs p are each who) goes o e b.words b.body_is b.no_reply))
-            (content_now p.relay (chunk_content c) kind_rules o (origin_of e) b.words go.taken (tells_all src c) there_it (takes_it, refl)))
+              (let now : Contains (next_chunks src) c = take_more (length (next_chunks src)) 32 (drop src.told src.chunks) c (omega (arith, long)) (subst (λ (ds : List Chunk). Contains (take (length (next_chunks src)) (drop src.told ds)) c) (sym h.inv.chunks) back) in
+              let there_it : Contains (kind_rules.reaction o.outline.behavior i).outputs (tells_all src c) = subst (λ (os : List PlainOutput). Contains os (tells_all src c)) (sym outputs)
+              (Contains-append_left (map (tells_all src) (next_chunks src)) (follows src (chunks_left src)) (tells_all src c) (contains-map (tells_all src) c (next_chunks src) now)) in
+              let go = goes o.outline.behavior i h.inv b.comes in
+              subst (λ (x : Outlined Kind). HasTold p.relay (chunk_content c) x.sent) (sym (one_reads setups cs place s there (SourcesFor setups cs p are each who) goes o e b.words b.body_is b.no_reply))
+              (content_now p.relay (chunk_content c) kind_rules o (origin_of e) b.words go.taken (tells_all src c) there_it (takes_it, refl)))
         ];
         done = λ is_done.
             (let none = done_left (chunks_left src) is_done in

@@ -1,17 +1,16 @@
 -- At rest no source is telling: what it told itself would wait.
-use Rattle.std.proofs.Common.{◌≡◌, ℕ, ◌==◌, ◌&&◌, Bool, true, false, List, [], ◌∷◌, ◌++◌, length, drop, Some, refl, sym, subst, ap, ◌∙◌}
-use Rattle.std.specs.Prelude.{Contains, if◌then◌else◌}
+use Rattle.std.proofs.Common.{◌≡◌, ℕ, ◌==◌, ◌&&◌, Bool, true, false, List, [], ◌∷◌, ◌++◌, Some, refl, sym, subst, ap, ◌∙◌}
+use Rattle.std.specs.Prelude.{Contains}
 use Rattle.std.specs.List.{AllByRecursion}
 use Rattle.std.proofs.lemmas.List.Elements.{Contains-append_left}
 use Rattle.caf_index.proofs.ContainsLemmas.{contains-none}
 use Rattle.caf_record.proofs.ListLemmas.{all_left, all_right}
 use Rattle.caf_record.proofs.MergeLemmas.{merge_runs}
 use Rattle.caf_record.proofs.StampedLemmas.{has_stamps}
-use Rattle.caf_carriers.proofs.CountLemmas.{same_number}
 use Rattle.caf_message.specs.declared.envelope.Taken.{Taken}
 use Rattle.caf_actor.specs.Merge.{batches_in, steps_of}
-use Rattle.caf_actor.specs.Record.{Kept, Machine, machine_of, IsAtRest, ends, heard, holds_notice, joined, from_place, to_place}
-use Rattle.caf_actor.specs.Run.{State, Step, Turn, Take, IsRun, run, opening_state, take_batch, EndsAs}
+use Rattle.caf_actor.specs.Record.{Kept, Machine, machine_of, IsAtRest, ends, heard, holds_notice, joined}
+use Rattle.caf_actor.specs.Run.{State, Step, Turn, Take, run, opening_state, take_batch}
 use Rattle.caf_actor.specs.declared.journal.TakenBatch.{TakenBatch}
 use Rattle.caf_actor.specs.declared.snapshot.Snapshot.{Snapshot}
 use Rattle.caf_kinds.specs.FileChunks.{AreChunks, all_chunks}
@@ -20,13 +19,12 @@ use Rattle.caf_kinds.specs.Setups.{setup_at}
 use Rattle.caf_kinds.specs.Who.{Who}
 use Rattle.caf_kinds.specs.declared.contents.Chunk.{Chunk}
 use Rattle.caf_kinds.specs.declared.kind.Kind.{Kind}
-use Rattle.caf_kinds.specs.declared.kind.Kind.TheVariants as kind
 use Rattle.caf_kinds.specs.declared.script.Step.{Step as ScriptStep}
 use Rattle.caf_kinds.specs.declared.setup.KindName.TheVariants as name
 use Rattle.caf_kinds.specs.declared.setup.Setup.{Setup}
 use Rattle.caf_kinds.specs.declared.source.Stage.{Stage}
 use Rattle.caf_kinds.specs.declared.source.Stage.TheVariants as stage
-use Rattle.caf_steady.specs.Steady.{Brings, IsSteady}
+use Rattle.caf_steady.specs.Steady.{Brings}
 use Rattle.caf_steady.proofs.ClassLemmas.{steady_behavior}
 use Rattle.caf_pipeline.specs.Undisturbed.{Pipeline, IsPipeline}
 use Rattle.caf_pipeline.specs.Contents.{comes}
@@ -97,8 +95,8 @@ module _ (setups : List Setup) (script : List ScriptStep) (files : List (List �
       let merged = merge_runs (machine_of kind_rules) (has_stamps kind_rules) ticks k is.legal ts is.merge in
       let made = is.undisturbed.actors.source in
       let end = run_waits setups (all_chunks files) is.undisturbed.pipeline is.undisturbed.actors (chunks setups script files ticks k ts is) σ (who setups script files ticks k ts is) refl refl made.peers_are
-          (up setups script files ticks k ts is) made.at made.kind_is ticks ts (opening_state k.places k.start) begins_waiting (all_quiet ts (ap heard (is.merge.parts 0) ∙ is.silent))
-          (subst (λ (bs : List TakenBatch). AllByRecursion (Brings (comes setups (all_chunks files) σ)) (joined bs)) (sym (is.merge.parts σ)) (brought setups script files ticks k ts is σ)) in
+      (up setups script files ticks k ts is) made.at made.kind_is ticks ts (opening_state k.places k.start) begins_waiting (all_quiet ts (ap heard (is.merge.parts 0) ∙ is.silent))
+      (subst (λ (bs : List TakenBatch). AllByRecursion (Brings (comes setups (all_chunks files) σ)) (joined bs)) (sym (is.merge.parts σ)) (brought setups script files ticks k ts is σ)) in
       subst (λ (es : List Taken). WaitsAt (ends (machine_of kind_rules) k σ) es) (merged.1.0.waiting σ σ ∙ rest.taken σ σ)
       (subst (λ (x : Snapshot Kind). WaitsAt x ((run (machine_of kind_rules) ticks (opening_state k.places k.start) (steps_of ts)).waiting σ σ)) (merged.1.0.snapshots σ) end)
 

@@ -1,6 +1,6 @@
 -- The conductor tells the source to start, so an undisturbed run's index is the plain index.
-use Rattle.std.proofs.Common.{◌≡◌, ℕ, ◌+◌, ◌<◌, ◌==◌, Bool, true, false, List, [], ◌∷◌, ◌++◌, length, Some, inl, inr, refl, sym, subst, ap, ◌∙◌, arith}
-use Rattle.std.specs.Prelude.{Contains, ◌⊎◌, if◌then◌else◌}
+use Rattle.std.proofs.Common.{◌≡◌, ℕ, Bool, true, false, List, [], ◌∷◌, ◌++◌, inl, inr, refl, sym, subst, ap, ◌∙◌, arith}
+use Rattle.std.specs.Prelude.{Contains, ◌⊎◌}
 use Rattle.std.specs.List.{AllByRecursion}
 use Rattle.std.proofs.lemmas.List.{append-nil}
 use Rattle.std.proofs.lemmas.List.Elements.{Contains-append_left}
@@ -125,7 +125,7 @@ module _ (setups : List Setup) (script : List Step) (files : List (List ℕ)) (t
       let all = brought setups script files ticks k ts is 0 in
       let has_read = reads_in_turn kind_rules may (k.start 0) (k.journal 0) steady_now begun.empty all in
       let sent_it : Contains (taken_by k outside 0) start_envelope = subst (λ (es : List Taken). Contains es start_envelope) (all_taken (machine_of kind_rules) ticks k is.legal rest outside 0)
-          (contains-here start_envelope (joined (heard (k.journal 0)) ++ sent (machine_of kind_rules) (k.start outside) (k.journal outside) 0)) in
+      (contains-here start_envelope (joined (heard (k.journal 0)) ++ sent (machine_of kind_rules) (k.start outside) (k.journal outside) 0)) in
       let taken = from_has outside (joined (k.journal 0)) start_envelope sent_it in
       told_arrives setups script files ticks k ts is rest 0 σ start_content has_read
       (tells_at (record { outline = outline_of (k.start 0); sent = [] }) (all_in_turn (k.journal 0)) start_envelope (ap outline_of (is.opens.start 0 (conductor_at_0 setups script) refl)) (turns_bring (k.journal 0) all)

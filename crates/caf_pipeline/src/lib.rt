@@ -2,10 +2,12 @@
 //! collector, and by a script that starts the source and asks the collector.
 //!
 //! Model: setups, scripts and files are lists, as everywhere; a [pipeline](specs) names the places of its actors. An
-//! actor is seen as the value of its kind, and what it does as the reaction that its kind has.
+//! actor is seen as the value of its kind, and what it does as the reaction that its kind has. A record is what each
+//! place took; nothing here speaks of a driver or of threads.
 //!
-//! The contracts that the layers above rest on are the laws: [`laws::undisturbed_opens`] says that a run of such
-//! actors can be opened.
+//! The contract that the layers above rest on is that of [`laws::undisturbed_files_are_indexed`]: wherever such a
+//! record is at rest, the collector's index is the plain index of the files. The other laws are the steps to it: who
+//! may be sent what, that nothing told is lost, and that the source tells all before all is at rest.
 #![tactic(auto)]
 
 pub mod laws;
