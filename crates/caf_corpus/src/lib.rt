@@ -12,7 +12,7 @@ mod file;
 mod scan;
 
 pub use corpus::{CorpusFault, read_corpus};
-pub use scan::{LARGEST_CORPUS, LONGEST_LINE};
+pub use scan::{LARGEST_CORPUS, LONGEST_LINE, Passed};
 
 #[cfg(test)]
 mod tests;

@@ -20,8 +20,10 @@ pub(crate) struct Spot {
 
 /// A limit that is passed, and the line of the first byte beyond it.
 #[derive(Clone, Copy, Debug)]
-pub(crate) enum Passed {
+pub enum Passed {
+    /// That of a line.
     Line(u64),
+    /// That of all files together.
     Corpus(u64),
 }
 

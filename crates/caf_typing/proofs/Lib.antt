@@ -3,3 +3,4 @@ pub mod MessageLemmas
 pub mod PlaceLemmas
 pub mod StepLemmas
 pub mod OpensLemmas
+pub mod BuiltinLemmas

@@ -89,7 +89,7 @@ in_front (x ∷ xs) ys zero s h = h
 in_front (x ∷ xs) ys (suc i) s h = in_front xs ys i s h
 
 -- actors have the places from 1 on
-at_suc : (setups : List Setup) (i : ℕ) → setup_at setups (suc i) ≡ slice_get setups i
+pub at_suc : (setups : List Setup) (i : ℕ) → setup_at setups (suc i) ≡ slice_get setups i
 at_suc setups i =
     let less : suc i - 1 ≡ i = omega arith in
     ap (λ (b : Bool). cond b None (slice_get setups (suc i - 1))) (eqb-suc-zero i) ∙ ap (slice_get setups) less
@@ -102,7 +102,7 @@ setup_found xs ys found up =
 
 -- ---- who can stand there
 
-range_below : (first n count : ℕ) → first + n ≤ count → AllByRecursion (λ p. p < count) (range_with_len first n)
+pub range_below : (first n count : ℕ) → first + n ≤ count → AllByRecursion (λ p. p < count) (range_with_len first n)
 range_below first zero count room = tt
 range_below first (suc n) count room = (omega (arith, room), range_below (first + 1) n count (omega (arith, room)))
 

@@ -111,3 +111,12 @@ steps_typed who setups up (s ∷ steps) (t ∷ texts) same none =
     let first : plain_step s ≡ step_said who t = cc in
     let others : map plain_step steps ≡ map (step_said who) texts = cc in
     (seen_typed setups s (subst (IsTypedPlain setups) (sym first) (said_typed who setups up t none.0)), steps_typed who setups up steps texts others none.1)
+
+pub plain_typed : (setups : List Setup) (steps : List Step) (plains : List PlainStep) → map plain_step steps ≡ plains → AllByRecursion (IsTypedPlain setups) plains
+    → AllByRecursion (IsTypedStep setups) steps
+plain_typed setups [] plains same typed = tt
+plain_typed setups (s ∷ steps) [] same typed = absurd cc
+plain_typed setups (s ∷ steps) (p ∷ plains) same typed =
+    let first : plain_step s ≡ p = cc in
+    let others : map plain_step steps ≡ plains = cc in
+    (seen_typed setups s (subst (IsTypedPlain setups) (sym first) typed.0), plain_typed setups steps plains others typed.1)
