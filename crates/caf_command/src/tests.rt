@@ -96,9 +96,10 @@ fn runs_are_asked_for_in_any_order(rt: HostRuntime) -> Result<(), Fail> {
             ["run", "check"].as_slice(),
         ),
     ] {
-        match asked(alloc, line)? {
+        let command = asked(alloc, line)?;
+        match &command {
             Ok(Command::Run(run)) => {
-                assert!(rt; scenario_is(&run, scenario), "{line}");
+                assert!(rt; scenario_is(run, scenario), "{line}");
                 assert_eq!(rt; run.workers, workers, "{line}");
                 assert_eq!(rt; run.is_traced, is_traced, "{line}");
                 assert_eq!(rt; run.budget, budget, "{line}");
@@ -113,14 +114,14 @@ fn runs_are_asked_for_in_any_order(rt: HostRuntime) -> Result<(), Fail> {
 #[test]
 fn other_commands_are_asked_for(rt: HostRuntime) -> Result<(), Fail> {
     let alloc = rt.alloc();
-    assert!(rt;
-        matches!(asked(alloc, "check a")?, Ok(Command::Check(file)) if file.as_str() == "a")
-    );
-    assert!(rt;
-        matches!(asked(alloc, "plain b a b")?, Ok(Command::Plain(files)) if files_are(&files, &["b", "a", "b"]))
-    );
-    assert!(rt; matches!(asked(alloc, "make 100000")?, Ok(Command::Make(100_000))));
-    assert!(rt; matches!(asked(alloc, "make 0000000001")?, Ok(Command::Make(1))));
+    let check = asked(alloc, "check a")?;
+    assert!(rt; matches!(&check, Ok(Command::Check(file)) if file.as_str() == "a"));
+    let plain = asked(alloc, "plain b a b")?;
+    assert!(rt; matches!(&plain, Ok(Command::Plain(files)) if files_are(files, &["b", "a", "b"])));
+    let most = asked(alloc, "make 100000")?;
+    assert!(rt; matches!(&most, Ok(Command::Make(100_000))));
+    let least = asked(alloc, "make 0000000001")?;
+    assert!(rt; matches!(&least, Ok(Command::Make(1))));
     Ok(())
 }
 
