@@ -1,0 +1,4 @@
+pub mod DriveLemmas
+pub mod EndLemmas
+pub mod PlayLemmas
+pub mod PartLemmas
