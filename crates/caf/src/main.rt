@@ -31,6 +31,7 @@ fn run<R: Files + Print + Env + AllocGlobal>(rt: &R) -> Outcome {
         Err(end) => Outcome {
             status: end.status(),
             end,
+            kept: None,
         },
     }
 }

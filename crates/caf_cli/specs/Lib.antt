@@ -1,3 +1,7 @@
-pub mod Command
 pub mod End
-pub mod Outcome
+pub mod Ends
+pub mod Reading
+pub mod Play
+pub mod Run
+pub mod Quiet
+pub mod Make

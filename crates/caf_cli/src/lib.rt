@@ -1,19 +1,27 @@
-//! The top call: the words of the command line in, the index of the file out.
+//! The top call: the words of the command line in, what their command writes out.
 //!
-//! Model: the words are a list of texts; files and the sink are what `caf_io` makes of them, so
-//! that contracts speak of the bytes that were told and written, and of counts of faults.
+//! Model: the words are a list of texts; files and the sink are what `caf_io` makes of them, so that contracts
+//! speak of the bytes that were told and written, and of counts of faults.
 //!
-//! The contract that the program rests on is that of [`run_main`]: each end has its cause, and where
-//! the end is [`End::Done`] what was written is the index text of the file's plain index and
-//! nothing else.
+//! The contract that the program rests on is that of [`run_main`]: each end has its cause. Where a run ends with
+//! [`End::Done`], what was written is the text of its record, which is complete, and of which `IsKept` says what a
+//! user relies on.
 #![tactic(auto)]
 
-mod command;
+mod checking;
 mod end;
-mod run;
+mod making;
+mod outcome;
+mod plain;
+mod playing;
+mod reading;
+mod running;
+mod top;
+mod writing;
 #[cfg(test)]
 mod tests;
 
-pub use command::WordList;
+pub use caf_command::WordList;
 pub use end::{End, LimitKind, end_line};
-pub use run::{CORPUS_LIMIT, Outcome, run_main};
+pub use outcome::Outcome;
+pub use top::{run_main, run_quiet};
