@@ -58,14 +58,14 @@ pub(crate) fn run<F: Files, S: Sink>(
             kept: None,
         };
     };
-    match ran(alloc, &table, words, files) {
+    match played(alloc, &table, words, files) {
         Ok(ran) => told(alloc, &table, words, ran, out),
         Err(end) => Ended { end, kept: None },
     }
 }
 
 /// The run, or why there is none. Nothing is written yet.
-fn ran<F: Files>(
+fn played<F: Files>(
     alloc: Global,
     table: &TypeTable,
     words: &RunWords,
