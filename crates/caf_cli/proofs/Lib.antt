@@ -1,0 +1,5 @@
+pub mod ChosenLemmas
+pub mod GeneratedLemmas
+pub mod LinesLemmas
+pub mod PlayLemmas
+pub mod TableLemmas

@@ -52,7 +52,7 @@ end_text (Limit kind file number) = line (codes "caf: limit: " ++ limit_text kin
 end_text Write = line (codes "caf: cannot write")
 end_text Memory = line (codes "caf: out of memory")
 end_text Budget = line (codes "caf: message budget spent")
-end_text (Exhausted place) = line (codes "caf: stamps of place " ++ (decimal place ++ codes " used up"))
+end_text (Exhausted place) = codes "caf: stamps of place " ++ (decimal place ++ line (codes " used up"))
 
 -- whether the sink was written to before this end
 abbrev pub has_written : End → Bool

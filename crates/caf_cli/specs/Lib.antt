@@ -5,3 +5,4 @@ pub mod Play
 pub mod Run
 pub mod Quiet
 pub mod Make
+pub mod Commands

@@ -1,5 +1,5 @@
 -- What the command `make` promises of its end.
-use Rattle.std.specs.Prelude.{◌≡◌, ◌⊎◌, ◌×◌, ℕ, ◌+◌, ◌-◌, ◌^◌, min, List, [], ◌∷◌, length, slice_get, Option, Some, None}
+use Rattle.std.specs.Prelude.{◌≡◌, ◌⊎◌, ℕ, ◌+◌, ◌-◌, ◌^◌, min, List, [], ◌∷◌, length, slice_get, Option, Some, None}
 use Rattle.std.specs.List.{sum_by, count_by}
 use Rattle.std.specs.FinMap as map
 use Rattle.caf_corpus.specs.Limits.{is_line_end}
@@ -33,13 +33,24 @@ abbrev pub entries_in : Option Entries → ℕ
 entries_in (Some index) = stopped (entry_count index)
 entries_in None = 0
 
--- of the files, and of the index of what is in them
-abbrev pub counts_of : List (List ℕ) → Option Entries → Counts
-counts_of files index = record {
+-- how large the files are
+abbrev pub sizes_of : List (List ℕ) → Counts
+sizes_of files = record {
   files = length files;
   bytes = stopped (sum_by (λ (file : List ℕ). length file) files);
   lines = stopped (sum_by (λ (file : List ℕ). count_by is_line_end file) files);
   chunks = stopped (sum_by (λ (file : List ℕ). length (chunks_of file)) files);
+  words = 0;
+  postings = 0;
+}
+
+-- and how large the index is
+abbrev pub with_index : Counts → Option Entries → Counts
+with_index sizes index = record {
+  files = sizes.files;
+  bytes = sizes.bytes;
+  lines = sizes.lines;
+  chunks = sizes.chunks;
   words = words_in index;
   postings = entries_in index;
 }
@@ -57,7 +68,7 @@ pub record IsPlayOfLines (lines : ℕ) (end : PlayEnd) : Type 0 where
 -- the text is the line of its numbers, where the index is that of the collector at its end
 pub record IsMade (lines : ℕ) (text : List ℕ) : Type 0 where
   pub play : IsPlayOfLines lines play.Done
-  pub text_is : text ≡ make_line_of (counts_of (files_of lines) (index_at (slice_get play.played.kinds (collector_place 4))))
+  pub text_is : text ≡ make_line_of (with_index (sizes_of (files_of lines)) (index_at (slice_get play.played.kinds (collector_place 4))))
 
 -- why there is no text
 abbrev pub IsNotMade : (lines : ℕ) → End → Type 0

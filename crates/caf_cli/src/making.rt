@@ -1,11 +1,13 @@
 //! The command `make`.
-ghost use Rattle.std.specs.Prelude.{◌≡◌, ◌≤◌, length, false, slice_get, IfOk, IfErr};
-ghost use Rattle.caf_types.specs.TypeTable.{seen};
+ghost use Rattle.std.specs.Prelude.{◌≡◌, ◌≤◌, false, slice_get, count_by, IfOk, IfErr};
+ghost use Rattle.std.specs.Option.{option_copied};
+ghost use Rattle.caf_corpus.specs.Limits.{is_line_end};
 ghost use Rattle.caf_io.specs.Faults.{Rose};
-ghost use Rattle.caf_generator.specs.Generator.{files_of};
+ghost use Rattle.caf_generator.specs.MakeLine.{make_line_of};
 ghost use Rattle.caf_report.specs.Report.{index_at};
 ghost use Rattle.caf_cli.specs.End.{has_written};
-ghost use Rattle.caf_cli.specs.Make.{MakeEnds, IsMade, IsNotMade, counts_of, sizes_of, words_in, entries_in};
+ghost use Rattle.caf_cli.specs.Make as made;
+ghost use Rattle.caf_cli.specs.Make.{MakeEnds, IsMade, IsNotMade, sizes_of, with_index};
 
 use crate::end::End;
 use crate::playing::play_over;
@@ -18,6 +20,7 @@ use caf_kinds::{Kind, core_table};
 use caf_play::PlayEnd;
 use caf_scenario::builtin;
 use caf_types::{Memory, Octets, Seq};
+use caf_typing::laws::builtin_opens;
 use std::alloc::Global;
 
 /// How many messages may be handled.
@@ -45,6 +48,7 @@ fn made(alloc: Global, lines: u32) -> Result<Octets, End>
     ensures made { IfOk result (IsMade lines) }
     ensures not_made { IfErr result (IsNotMade lines) }
 {
+    builtin_opens();
     let table = core_table(alloc)?;
     let scenario = builtin(alloc, COUNTERS)?;
     let files = generated_files(alloc, lines)?;
@@ -59,28 +63,32 @@ fn made(alloc: Global, lines: u32) -> Result<Octets, End>
 
 /// The line of these sizes, and of the collector's index among these behaviours.
 fn line_of(alloc: Global, sizes: Counts, kinds: &Seq<Kind>) -> Result<Octets, Memory>
+    ensures { IfOk result (λ line. line ≡ make_line_of (with_index sizes (index_at (slice_get kinds.now 8)))) }
 {
     let index = index_of(kinds);
     make_line(
         alloc,
         &Counts {
-            words: words_in(index),
-            postings: entries_in(index),
             files: sizes.files,
             bytes: sizes.bytes,
             lines: sizes.lines,
             chunks: sizes.chunks,
+            words: words_in(index),
+            postings: entries_in(index),
         },
     )
 }
 
 fn index_of(kinds: &Seq<Kind>) -> Option<&Index>
+    ensures { option_copied result ≡ index_at (slice_get kinds.now 8) }
 {
-    kinds.get(COLLECTOR)?.index()
+    let collector = kinds.get(COLLECTOR)?;
+    collector.index()
 }
 
 /// How many words the index has, where there is one.
 fn words_in(index: Option<&Index>) -> u64
+    ensures { result ≡ made.words_in (option_copied index.entry) }
 {
     match index {
         Some(index) => index.words(),
@@ -90,6 +98,7 @@ fn words_in(index: Option<&Index>) -> u64
 
 /// How many entries the index has, where there is one.
 fn entries_in(index: Option<&Index>) -> u64
+    ensures { result ≡ made.entries_in (option_copied index.entry) }
 {
     match index {
         Some(index) => index.entries(),
@@ -99,25 +108,29 @@ fn entries_in(index: Option<&Index>) -> u64
 
 /// How many files, bytes, lines and chunks there are.
 fn sizes(alloc: Global, files: &Seq<Octets>) -> Result<Counts, Memory>
+    ensures { IfOk result (λ sizes. sizes ≡ sizes_of files.now) }
 {
-    let mut sizes = Counts {
+    let mut bytes = 0_u64;
+    let mut lines = 0_u64;
+    let mut chunk_count = 0_u64;
+    for file in files.as_slice() {
+        bytes = bytes.saturating_add(file.len());
+        lines = lines.saturating_add(line_ends(file.as_slice()));
+        chunk_count = chunk_count.saturating_add(chunks(alloc, file.as_slice())?.len());
+    }
+    Ok(Counts {
         files: files.len(),
-        bytes: 0,
-        lines: 0,
-        chunks: 0,
+        bytes,
+        lines,
+        chunks: chunk_count,
         words: 0,
         postings: 0,
-    };
-    for file in files.as_slice() {
-        sizes.bytes = sizes.bytes.saturating_add(file.len());
-        sizes.lines = sizes.lines.saturating_add(line_ends(file.as_slice()));
-        sizes.chunks = sizes.chunks.saturating_add(chunks(alloc, file.as_slice())?.len());
-    }
-    Ok(sizes)
+    })
 }
 
-/// How many line ends there are.
-fn line_ends(bytes: &[u8]) -> u64 {
+fn line_ends(bytes: &[u8]) -> u64
+    ensures { result ≡ count_by is_line_end bytes.now }
+{
     let mut ends = 0;
     for byte in bytes {
         if *byte == b'\n' {

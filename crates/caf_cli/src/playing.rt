@@ -20,7 +20,7 @@ pub(crate) fn play_over(
     budget: u64,
 ) -> Result<Played, Memory>
     requires table { seen table.now ≡ core }
-    requires opens { CanOpen scenario.setups.now scenario.script.now files }
+    requires opens { CanOpen scenario.now.setups scenario.now.script files }
     ensures { IfOk result (IsPlay scenario.now files budget) }
 {
     let mut chooser = RoundRobin::new();

@@ -18,6 +18,7 @@ use caf_record::RunRecord;
 use caf_report::record_text;
 use caf_scenario::{Scenario, builtin};
 use caf_types::{Letters, TypeTable};
+use caf_typing::laws::{builtin_opens, valid_scenario_opens};
 use std::alloc::Global;
 
 /// How many counters the built-in scenario has.
@@ -79,6 +80,8 @@ fn played<F: Files>(
     ensures same_content { F.told files.new ≡ F.told files.old }
     ensures none_falls { (name : List ℕ) → F.faults files.old name ≤ F.faults files.new name }
 {
+    valid_scenario_opens();
+    builtin_opens();
     if !are_few(&words.files) {
         return Err(End::Limit(LimitKind::Files, 0, 0));
     }
