@@ -1,5 +1,5 @@
 //! The command `run`.
-ghost use Rattle.std.specs.Prelude.{◌≡◌, ℕ, ◌≤◌, ◌^◌, List, length, false, IfOk, IfErr, OnOk};
+ghost use Rattle.std.specs.Prelude.{◌≡◌, ℕ, ◌≤◌, ◌^◌, List, length, false, Some, IfOk, IfErr, OnOk};
 ghost use Rattle.caf_types.specs.TypeTable.{seen};
 ghost use Rattle.caf_io.specs.Faults.{Rose};
 ghost use Rattle.caf_kinds.specs.Core.{core};
@@ -131,6 +131,8 @@ fn told<S: Sink>(
     let Ran { scenario, played } = ran;
     let Played { end, kinds, kept } = played;
     match end {
+        PlayEnd::Budget => keeping(End::Budget, kept),
+        PlayEnd::Exhausted(place) => keeping(End::Exhausted(place), kept),
         PlayEnd::Done => {
             let text = record_text(
                 alloc,
@@ -142,23 +144,23 @@ fn told<S: Sink>(
                 words.is_traced,
             );
             match text {
-                Ok(text) => Ended {
-                    end: write_text(out, text.as_slice()),
-                    kept: Some(kept),
-                },
+                Ok(text) => keeping(write_text(out, text.as_slice()), kept),
                 Err(_) => Ended {
                     end: End::Memory,
                     kept: None,
                 },
             }
         }
-        PlayEnd::Budget => Ended {
-            end: End::Budget,
-            kept: Some(kept),
-        },
-        PlayEnd::Exhausted(place) => Ended {
-            end: End::Exhausted(place),
-            kept: Some(kept),
-        },
+    }
+}
+
+/// An end of which the record is kept.
+fn keeping(end: End, kept: RunRecord) -> Ended
+    ensures end { result.end ≡ end }
+    ensures kept { result.kept ≡ Some kept }
+{
+    Ended {
+        end,
+        kept: Some(kept),
     }
 }

@@ -52,7 +52,7 @@ pub(crate) fn run(
 
 /// What is to be seen of a run of the program.
 #[derive(Drop)]
-pub(crate) struct Seen {
+pub(crate) struct Trial {
     pub(crate) end: End,
     pub(crate) status: u8,
     pub(crate) is_kept: bool,
@@ -66,7 +66,7 @@ pub(crate) fn seen(
     alloc: Global,
     texts: &[&str],
     named: &[(&str, &[u8])],
-) -> Result<Seen, Memory> {
+) -> Result<Trial, Memory> {
     let mut files = MemoryFiles::new(alloc);
     for (name, bytes) in named {
         files.add(alloc, name, bytes)?;
@@ -74,7 +74,7 @@ pub(crate) fn seen(
     let mut out = MemorySink::new(alloc);
     let words = words_of(alloc, texts)?;
     let Outcome { status, end, kept } = run(alloc, &words, &mut files, &mut out);
-    Ok(Seen {
+    Ok(Trial {
         end,
         status,
         is_kept: kept.is_some(),

@@ -1,6 +1,7 @@
 use crate::{End, LimitKind, end_line};
 use caf_scenario::ScenarioFault;
-use caf_types::{Letters, Name};
+use caf_types::{Letters, Memory, Name};
+use std::alloc::Global;
 use std::test::Fail;
 
 #[test]
@@ -43,40 +44,38 @@ fn each_end_has_its_line(rt: HostRuntime) -> Result<(), Fail> {
     Ok(())
 }
 
+fn is_told(alloc: Global, fault: ScenarioFault, line: &str) -> Result<bool, Memory> {
+    let end = End::Scenario(fault);
+    let told = end_line(alloc, &end)?;
+    Ok(end.status() == 2 && told.as_slice() == line.as_bytes())
+}
+
 #[test]
 fn each_fault_of_a_scenario_has_its_line(rt: HostRuntime) -> Result<(), Fail> {
     let alloc = rt.alloc();
-    for (fault, line) in [
+    let faults = [
         (ScenarioFault::Malformed, "caf: scenario: not JSON\n"),
-        (
-            ScenarioFault::Field(Letters::of(alloc, "actors.0.peers")?),
-            "caf: scenario: field actors.0.peers\n",
-        ),
-        (
-            ScenarioFault::Kind(Letters::of(alloc, "cook")?),
-            "caf: scenario: kind cook\n",
-        ),
-        (
-            ScenarioFault::Twice(Name::of(alloc, "a")?),
-            "caf: scenario: name a twice\n",
-        ),
-        (
-            ScenarioFault::Unknown(Name::of(alloc, "b")?),
-            "caf: scenario: unknown b\n",
-        ),
-        (
-            ScenarioFault::Interface(Name::of(alloc, "conductor")?, Name::of(alloc, "k")?),
-            "caf: scenario: interface of k for conductor\n",
-        ),
         (ScenarioFault::Many, "caf: scenario: too many\n"),
-    ] {
-        let end = End::Scenario(fault);
-        assert_eq!(rt; end.status(), 2);
-        assert_eq!(rt;
-            end_line(alloc, &end)?.as_slice(),
-            line.as_bytes(),
-            "{line}"
-        );
+    ];
+    for (fault, line) in faults {
+        assert!(rt; is_told(alloc, fault, line)?, "{line}");
     }
+    let path = ScenarioFault::Field(Letters::of(alloc, "actors.0.peers")?);
+    assert!(rt; is_told(alloc, path, "caf: scenario: field actors.0.peers\n")?);
+    let kind = ScenarioFault::Kind(Letters::of(alloc, "cook")?);
+    assert!(rt; is_told(alloc, kind, "caf: scenario: kind cook\n")?);
+    Ok(())
+}
+
+#[test]
+fn each_fault_of_a_name_has_its_line(rt: HostRuntime) -> Result<(), Fail> {
+    let alloc = rt.alloc();
+    let twice = ScenarioFault::Twice(Name::of(alloc, "a")?);
+    assert!(rt; is_told(alloc, twice, "caf: scenario: name a twice\n")?);
+    let unknown = ScenarioFault::Unknown(Name::of(alloc, "b")?);
+    assert!(rt; is_told(alloc, unknown, "caf: scenario: unknown b\n")?);
+    let asking = Name::of(alloc, "conductor")?;
+    let interface = ScenarioFault::Interface(asking, Name::of(alloc, "k")?);
+    assert!(rt; is_told(alloc, interface, "caf: scenario: interface of k for conductor\n")?);
     Ok(())
 }
