@@ -17,7 +17,7 @@ use Rattle.caf_kinds.specs.declared.script.Step.{Step}
 use Rattle.caf_kinds.specs.declared.setup.KindName.{KindName}
 use Rattle.caf_kinds.specs.declared.setup.KindName.TheVariants as name
 use Rattle.caf_kinds.specs.declared.setup.Setup.{Setup}
-use Rattle.caf_opening.specs.Opening.{CanStand, CanOpen, own_files, files_left, actor_at, actors_from, conductor_at_0, opening_of}
+use Rattle.caf_opening.specs.Opening.{CanStand, CanOpen, own_files, files_left, actor_at, actors_from, conductor_at_0, opening_of, IsKnown, AreKnown}
 
 -- ---- whom they send to
 
@@ -173,6 +173,10 @@ one_more_actor places script n d before after all left rest a within so_far adde
     ∙ append_assoc before (actor_at places script (n + 1) s (own_files s.kind left) ∷ []) behind
     ∙ ap (λ (ss : List Setup). before ++ actors_from places script (n + 1) ss left) (sym front)
     ∙ so_far
+
+pub one_more_known : (actors : List (ActorState Kind)) (a : ActorState Kind) → AreKnown actors → IsKnown a → AreKnown (actors ++ a ∷ [])
+one_more_known [] a all last = (last, tt)
+one_more_known (x ∷ xs) a all last = (all.0, one_more_known xs a all.1 last)
 
 pub none_left : (places : List Setup) (script : List Step) (p n : ℕ) (before all : List (ActorState Kind)) (left : List (List ℕ)) → length places ≤ n → before ++ actors_from places script p (drop n places) left ≡ all → before ≡ all
 none_left places script p n before all left over e =

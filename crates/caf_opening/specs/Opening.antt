@@ -3,7 +3,7 @@ use Rattle.std.specs.Prelude.{◌≡◌, ◌≢◌, ℕ, ◌+◌, ◌<◌, ◌�
 use Rattle.std.specs.List.{AllByRecursion, list_any}
 use Rattle.caf_actor.specs.Actor.{ActorState, untried}
 use Rattle.caf_actor.specs.Snapshot.{fresh}
-use Rattle.caf_kinds.specs.Kinds.{has_peers, kind_rules}
+use Rattle.caf_kinds.specs.Kinds.{has_peers, kind_rules, IsValid}
 use Rattle.caf_kinds.specs.Planning.{conductor_of}
 use Rattle.caf_kinds.specs.Starting.{IsTypedStep, has_short_lines, started, who_of}
 use Rattle.caf_kinds.specs.Who.{Who}
@@ -66,3 +66,12 @@ conductor_at_0 places script = first_of true 0 (kind.Conductor (conductor_of who
 
 abbrev pub opening_of : List Setup → List Step → List (List ℕ) → List (ActorState Kind)
 opening_of places script files = conductor_at_0 places script ∷ actors_from places script 1 places files
+
+-- ---- what holds of their behaviours
+
+-- the behaviour's value is one that occurs
+abbrev pub IsKnown : ActorState Kind → Type 0
+IsKnown a = IsValid a.snapshot.behavior
+
+abbrev pub AreKnown : List (ActorState Kind) → Type 0
+AreKnown actors = AllByRecursion IsKnown actors

@@ -1,4 +1,4 @@
-ghost use Rattle.std.specs.Prelude.{◌≡◌, ◌≢◌, ◌+◌, ◌==◌, [], ◌++◌, length, IfOk, OnOk};
+ghost use Rattle.std.specs.Prelude.{◌≡◌, ◌≢◌, ◌+◌, ◌==◌, [], ◌++◌, length, false, IfOk, OnOk};
 ghost use Rattle.std.specs.List.{list_any};
 ghost use Rattle.caf_driver.specs.Opening.{AreFresh};
 ghost use Rattle.caf_kinds.specs.Kinds.{kind_rules};
@@ -25,6 +25,7 @@ pub fn opening_actors(
     ensures actors { IfOk result (λ actors. actors ≡ opening.opening_of places.now script.now files) }
     ensures count { IfOk result (λ actors. length actors ≡ length places.now + 1) }
     ensures fresh { IfOk result (λ actors. AreFresh kind_rules actors) }
+    ensures known { IfOk result (λ actors. opening.AreKnown actors) }
 {
     let mut actors = Seq::new(alloc);
     actors.push(conductor(alloc, places, script)?)?;
@@ -34,7 +35,8 @@ pub fn opening_actors(
 
 fn conductor(alloc: Global, places: &Seq<Setup>, script: &Seq<Step>) -> Result<Actor<Kind>, Memory>
     requires { CanOpen places.now script.now [] }
-    ensures { IfOk result (λ actor. actor ≡ opening.conductor_at_0 places.now script.now) }
+    ensures actor { IfOk result (λ actor. actor ≡ opening.conductor_at_0 places.now script.now) }
+    ensures known { IfOk result (λ actor. opening.IsKnown actor) }
 {
     let setup = Setup {
         kind: KindName::Conductor,
@@ -43,7 +45,7 @@ fn conductor(alloc: Global, places: &Seq<Setup>, script: &Seq<Step>) -> Result<A
         reserve: Places::new(alloc),
     };
     let behavior = Kind::start(alloc, 0, &setup, places, script, Seq::new(alloc))?;
-    Actor::new(alloc, 0, behavior, 0)
+    Ok(known(Actor::new(alloc, 0, behavior, 0)?))
 }
 
 /// Adds the actors behind the conductor.
@@ -54,8 +56,10 @@ fn add_others(
     files: Seq<Octets>,
     actors: &mut Seq<Actor<Kind>>,
 ) -> Result<(), Memory>
-    requires { CanOpen places.now script.now files }
-    ensures { OnOk result (actors.new ≡ actors.old ++ opening.actors_from places.now script.now 1 places.now files) }
+    requires opens { CanOpen places.now script.now files }
+    requires known { opening.AreKnown actors.old }
+    ensures added { OnOk result (actors.new ≡ actors.old ++ opening.actors_from places.now script.now 1 places.now files) }
+    ensures known { OnOk result (opening.AreKnown actors.new) }
 {
     let mut left = files;
     let setups = places.as_slice();
@@ -90,13 +94,25 @@ fn actor_at(
 ) -> Result<Actor<Kind>, Memory>
     requires start { CanStart place setup.now places.now script.now files }
     requires kind { setup.now.kind ≢ name.Conductor }
-    ensures { IfOk result (λ actor. actor ≡ opening.actor_at places.now script.now place setup.now files) }
+    ensures actor { IfOk result (λ actor. actor ≡ opening.actor_at places.now script.now place setup.now files) }
+    ensures known { IfOk result (λ actor. opening.IsKnown actor) }
 {
     let behavior = Kind::start(alloc, place, setup, places, script, files)?;
     if is_child(places.as_slice(), place) {
-        return Actor::vacant(alloc, place, behavior, 0);
+        return Ok(known(Actor::vacant(alloc, place, behavior, 0)?));
     }
-    Actor::new(alloc, place, behavior, 0)
+    Ok(known(Actor::new(alloc, place, behavior, 0)?))
+}
+
+/// The actor, unchanged.
+fn known(actor: Actor<Kind>) -> Actor<Kind>
+    requires { actor.is_broken ≡ false }
+    ensures same { result ≡ actor }
+    ensures known { opening.IsKnown actor }
+{
+    // Asking for the place tells what holds of every actor.
+    let _ = actor.place();
+    actor
 }
 
 /// Whether the place is kept for a child of one of the actors.

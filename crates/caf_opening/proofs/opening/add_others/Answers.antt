@@ -2,8 +2,8 @@ use Rattle.std.proofs.Common.{◌≡◌, ℕ, ◌+◌, ◌<◌, List, length, ge
 use Rattle.std.specs.List.{AllByRecursion}
 use Rattle.caf_kinds.specs.Starting.{has_short_lines}
 use Rattle.caf_kinds.specs.declared.setup.Setup.{Setup}
-use Rattle.caf_opening.specs.Opening.{actor_at, own_files, files_left}
-use Rattle.caf_opening.proofs.OpeningLemmas.{left_short, one_more_actor}
+use Rattle.caf_opening.specs.Opening.{actor_at, own_files, files_left, AreKnown}
+use Rattle.caf_opening.proofs.OpeningLemmas.{left_short, one_more_actor, one_more_known}
 use Rattle.caf_opening.proofs.opening.add_others.Goals as goal
 
 pub loop-before-preserved : goal.loop-before-preserved
@@ -18,8 +18,9 @@ loop-before-preserved c =
     let within : n < length places = omega (arith, test, long) in
     let same : d ≡ get_or places n d = c.index-setups-before.is ∙ ap (λ (ss : List Setup). get_or ss n d) c.as_slice-setups.ensures in
     let gone : c.take_files-own.new.left ≡ files_left (get_or places n d).kind left = c.take_files-own.ensures.left ∙ ap (λ (s : Setup). files_left s.kind left) same in
-    let is = c.in_ok-actor.ensures ∙ ap (λ (fs : List (List ℕ)). actor_at places script (n + 1) d fs) c.take_files-own.ensures.own
+    let is = c.in_ok-actor.ensures.actor ∙ ap (λ (fs : List (List ℕ)). actor_at places script (n + 1) d fs) c.take_files-own.ensures.own
     ∙ ap (λ (s : Setup). actor_at places script (n + 1) s (own_files s.kind left)) same in (
       one_more_actor places script n d c.loop-before.actors c.push.new.self _ left c.take_files-own.new.left _ within c.loop-before.invariant.0 c.in_ok-push.ensures.added is gone,
       subst (AllByRecursion (λ bytes. has_short_lines 0 bytes ≡ true)) (sym gone) (left_short (get_or places n d).kind left c.loop-before.invariant.1),
+      subst AreKnown (sym c.in_ok-push.ensures.added) (one_more_known c.loop-before.actors c.in_ok-actor.actor c.loop-before.invariant.2 c.in_ok-actor.ensures.known),
     )

@@ -6,11 +6,11 @@ use Rattle.caf_opening.proofs.opening.opening_actors.Goals as goal
 
 pub returns-clause-count : goal.returns-clause-count
 returns-clause-count c =
-    ap length (opened c.args.places.now c.args.script.now c.args.files _ _ _ c.in_ok-conductor.field-0 c.new-actors.ensures c.in_ok-push.ensures.added c.in_ok-conductor.ensures c.in_ok-add_others.ensures)
+    ap length (opened c.args.places.now c.args.script.now c.args.files _ _ _ c.in_ok-conductor.field-0 c.new-actors.ensures c.in_ok-push.ensures.added c.in_ok-conductor.ensures.actor c.in_ok-add_others.ensures.added)
     ∙ opening_length c.args.places.now c.args.script.now c.args.files
 
 pub returns-clause-fresh : goal.returns-clause-fresh
 returns-clause-fresh c =
     subst (AreFresh kind_rules)
-    (sym (opened c.args.places.now c.args.script.now c.args.files _ _ _ c.in_ok-conductor.field-0 c.new-actors.ensures c.in_ok-push.ensures.added c.in_ok-conductor.ensures c.in_ok-add_others.ensures))
+    (sym (opened c.args.places.now c.args.script.now c.args.files _ _ _ c.in_ok-conductor.field-0 c.new-actors.ensures c.in_ok-push.ensures.added c.in_ok-conductor.ensures.actor c.in_ok-add_others.ensures.added))
     (opening_fresh c.args.places.now c.args.script.now c.args.files c.requires)
