@@ -11,7 +11,7 @@ ghost use Rattle.caf_driver.specs.declared.drive.DriveEnd.TheVariants.{Rest};
 ghost use Rattle.caf_kinds.specs.Core.{core_entries};
 ghost use Rattle.caf_kinds.specs.Kinds.{kind_rules};
 ghost use Rattle.caf_kinds.specs.declared.kind.Kind.{Kind};
-ghost use Rattle.caf_opening.specs.Opening.{CanOpen, opening_of};
+ghost use Rattle.caf_opening.specs.Opening.{CanOpen, opening_of, AreKnown};
 ghost use Rattle.caf_play.specs.Ending as ending;
 ghost use Rattle.caf_play.specs.Ending.{machine, IsLegalWithin, IsOverBudget, IsExhausted, IsResting, StandsSomewhere, HasDriven, HasEnded};
 ghost use Rattle.caf_play.specs.declared.played.PlayEnd.TheVariants.{Done, Budget, Exhausted};
@@ -48,6 +48,7 @@ pub fn play<C: Chooser>(
     ensures kinds { (start : ℕ → Snapshot Kind) → StartsAt start (opening_of setups.now script.now files) → IfOk result (λ played. (place : ℕ) (kind : Kind) → slice_get played.kinds place ≡ Some kind → (ends machine (record_of start played.kept) place).behavior ≡ kind) }
     ensures count { IfOk result (λ played. (length played.kinds ≡ length setups.now + 1) × (length played.kept.journals ≡ length setups.now + 1)) }
     ensures starts { (start : ℕ → Snapshot Kind) → StartsAt start (opening_of setups.now script.now files) → IfOk result (λ played. HasStarts machine start played.kept) }
+    ensures known { OnOk result (AreKnown (opening_of setups.now script.now files)) }
 {
     let actors = opening_actors(alloc, setups, script, files)?;
     let mut driver = Driver::new(alloc, actors)?;
