@@ -30,6 +30,15 @@ pub record CanOpen (places : List Setup) (script : List Step) (files : List (Lis
   pub typed : AllByRecursion (IsTypedStep places) script
   pub lines : AllByRecursion (λ bytes. has_short_lines 0 bytes ≡ true) files
 
+-- it has the conductor neither as a peer nor as a child
+pub record IsSpared (s : Setup) : Type 0 where
+  pub peers : AllByRecursion (λ p. 0 < p) s.peers
+  pub reserve : AllByRecursion (λ p. 0 < p) s.reserve
+
+-- so it is with all of them
+abbrev pub SparesConductor : List Setup → Type 0
+SparesConductor places = AllByRecursion IsSpared places
+
 -- ---- the actors
 
 -- it is a child of another actor, which starts it

@@ -4,3 +4,4 @@ pub mod PlaceLemmas
 pub mod StepLemmas
 pub mod OpensLemmas
 pub mod BuiltinLemmas
+pub mod SparesLemmas

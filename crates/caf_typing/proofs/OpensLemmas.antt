@@ -19,7 +19,7 @@ use Rattle.caf_scenario.specs.Peers.{asked_fault, peer_fault, peers_fault_of, pe
 use Rattle.caf_scenario.specs.Read.{kind, twice, many, or_else, unless}
 use Rattle.caf_scenario.specs.Scenario.{IsSaid, setups_said, children, plain_step, step_said}
 use Rattle.caf_scenario.specs.Steps.{step_fault, steps_fault}
-use Rattle.caf_scenario.specs.Valid.{json_fault, written_fault, later_fault, found_fault}
+use Rattle.caf_scenario.specs.Valid.{json_fault, written_fault, later_fault, found_fault, IsValidScenario, IsScenarioOf}
 use Rattle.caf_scenario.specs.Written.{Document}
 use Rattle.caf_typing.specs.Opens.{HaveShortLines, ValidScenarioOpens}
 use Rattle.caf_typing.proofs.FaultLemmas.{NoFault, neither, none_each, holds, all_to}
@@ -90,6 +90,14 @@ set_up actors ys first who text found is =
     let up = named_setup who 1 first actors text found is in
     (up.setup, setup_found (setups_said who first actors) ys found up, up.kind)
 
+pub whole_actors : (d : Document) → later_fault d ≡ None → AllByRecursion (IsWhole (actor_named d.actors)) d.actors
+whole_actors d none =
+    let who : Finder = actor_named d.actors in
+    let past_numbers = neither (many_fault d) (or_else (actors_fault d.actors) (found_fault who d)) none in
+    let past_actors = neither (actors_fault d.actors) (found_fault who d) past_numbers.1 in
+    let past_peers = neither (peers_fault who d.actors) (steps_fault who d.script) past_actors.1 in
+    wholes who d.actors (numbers_of d.actors d.actors 0 past_actors.0) (peers_of who d.actors past_peers.0)
+
 said_opens : (d : Document) (scenario : Scenario) (files : List (List ℕ)) → later_fault d ≡ None → IsSaid d scenario → HaveShortLines files
     → CanOpen scenario.setups scenario.script files
 said_opens d scenario files none said lines =
@@ -107,7 +115,7 @@ said_opens d scenario files none said lines =
     ∙ ap (λ n. n + length (children more)) (length_said who first d.actors)
     ∙ ap (λ n. length d.actors + n) (length_children more) in
     let below : AreBelow who (length setups + 1) = λ text found is. let less = named_below 1 d.actors text found is in omega (arith, less, count) in
-    let whole = wholes who d.actors (numbers_of d.actors d.actors 0 past_actors.0) (peers_of who d.actors past_peers.0) in
+    let whole = whole_actors d none in
     let each : AllByRecursion (CanStand (length setups + 1)) setups =
     all_joined (CanStand (length setups + 1)) (setups_said who first d.actors) (children more)
     (all_stand who (length setups + 1) first d.actors whole below (omega (arith, count)))
@@ -126,8 +134,8 @@ said_opens d scenario files none said lines =
 
 -- ---- the bytes
 
+pub no_later_fault : (bytes : List ℕ) (scenario : Scenario) → IsValidScenario bytes → (of_bytes : IsScenarioOf bytes scenario) → later_fault of_bytes.document ≡ None
+no_later_fault bytes scenario valid of_bytes = sym (ap written_fault of_bytes.in_form) ∙ sym (ap json_fault of_bytes.is_json) ∙ valid
+
 pub opens : ValidScenarioOpens
-opens bytes scenario files valid of_bytes lines =
-    let later : later_fault of_bytes.document ≡ None =
-    sym (ap written_fault of_bytes.in_form) ∙ sym (ap json_fault of_bytes.is_json) ∙ valid in
-    said_opens of_bytes.document scenario files later of_bytes.said lines
+opens bytes scenario files valid of_bytes lines = said_opens of_bytes.document scenario files (no_later_fault bytes scenario valid of_bytes) of_bytes.said lines

@@ -2,7 +2,7 @@
 use Rattle.std.specs.Prelude.{◌≡◌, ◌≤◌, ℕ, List, true}
 use Rattle.std.specs.List.{AllByRecursion}
 use Rattle.caf_kinds.specs.Starting.{has_short_lines}
-use Rattle.caf_opening.specs.Opening.{CanOpen}
+use Rattle.caf_opening.specs.Opening.{CanOpen, SparesConductor}
 use Rattle.caf_scenario.specs.Builtin.{IsBuiltin}
 use Rattle.caf_scenario.specs.Valid.{IsValidScenario, IsScenarioOf}
 use Rattle.caf_scenario.specs.declared.scenario.Scenario.{Scenario}
@@ -19,3 +19,9 @@ ValidScenarioOpens = (bytes : List ℕ) (scenario : Scenario) (files : List (Lis
 abbrev pub BuiltinOpens : Type 0
 BuiltinOpens = (counters : ℕ) (scenario : Scenario) (files : List (List ℕ)) → 1 ≤ counters → counters ≤ 200 → IsBuiltin counters scenario
     → HaveShortLines files → CanOpen scenario.setups scenario.script files
+
+-- in neither has any actor the conductor as a peer or as a child
+abbrev pub ScenariosSpareConductor : Type 0
+ScenariosSpareConductor =
+    ((bytes : List ℕ) (scenario : Scenario) → IsValidScenario bytes → IsScenarioOf bytes scenario → SparesConductor scenario.setups)
+    × ((counters : ℕ) (scenario : Scenario) → IsBuiltin counters scenario → SparesConductor scenario.setups)
