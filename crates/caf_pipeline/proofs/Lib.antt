@@ -28,3 +28,4 @@ pub mod GoingLemmas
 pub mod RestLemmas
 pub mod BegunLemmas
 pub mod UndisturbedLemmas
+pub mod WeightLemmas

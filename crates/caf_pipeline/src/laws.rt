@@ -4,6 +4,7 @@ ghost use Rattle.caf_pipeline.specs.Contents.{PartsTakeTheirContents};
 ghost use Rattle.caf_pipeline.specs.Flow.{RelayedChunksAreCollected};
 ghost use Rattle.caf_pipeline.specs.Indexed.{RelayedFilesAreIndexed, StartedFilesAreIndexed};
 ghost use Rattle.caf_pipeline.specs.Indexed.{ToldFilesAreIndexed, UndisturbedFilesAreIndexed};
+ghost use Rattle.caf_pipeline.specs.Numbers.{EnoughIsNeverSpent, UndisturbedRunsAreShort};
 ghost use Rattle.caf_pipeline.specs.Parts.{PartsHandOn};
 ghost use Rattle.caf_pipeline.specs.Postings.{PostingsFitAMessage};
 ghost use Rattle.caf_pipeline.specs.Sent.{UndisturbedScriptIsSent};
@@ -70,4 +71,15 @@ pub fn started_files_are_indexed()
 /// collector's index is the plain index of the files, whatever the order in which anything was taken.
 pub fn undisturbed_files_are_indexed()
     ensures { UndisturbedFilesAreIndexed }
+{}
+
+/// In a legal record over the opening of an undisturbed run, in which no tick and no Stop was taken, fewer envelopes were
+/// handled than 8 for each chunk of the files, 16 for each place and 2 for each step, whether it is at rest or not.
+pub fn undisturbed_runs_are_short()
+    ensures { UndisturbedRunsAreShort }
+{}
+
+/// So a budget of that many is never spent before Stop.
+pub fn enough_is_never_spent()
+    ensures { EnoughIsNeverSpent }
 {}

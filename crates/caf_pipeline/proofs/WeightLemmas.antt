@@ -1,0 +1,250 @@
+-- Envelopes weighed by where they go: what places took weighs no more than what was sent to them.
+use Rattle.std.proofs.Common.{◌≡◌, ℕ, zero, suc, ◌+◌, ◌-◌, ◌≤◌, ◌<◌, ◌==◌, ◌&&◌, Bool, true, false, List, [], ◌∷◌, ◌++◌, length, map, cond, inl, inr, refl, sym, subst, ap, ◌∙◌, arith}
+use Rattle.std.specs.Prelude.{◌⊎◌}
+use Rattle.std.specs.List.{AllByRecursion}
+use Rattle.std.proofs.lemmas.Bool.{cases_lt}
+use Rattle.std.proofs.lemmas.Bool.Decides.{nat_tests}
+use Rattle.caf_message.specs.declared.envelope.Taken.{Taken}
+use Rattle.caf_message.specs.Envelope.{outside, start_envelope}
+use Rattle.caf_actor.specs.PlainPost.{PlainPost}
+use Rattle.caf_actor.specs.Record.{Machine, Kept, IsLegal, IsPrefix, from_place, to_place, joined, heard, told, when, posted, sent, taken_by, sent_by, outside_sends, ends, handled_at, handled, sum_below}
+use Rattle.caf_actor.specs.declared.journal.TakenBatch.{TakenBatch}
+use Rattle.caf_carriers.proofs.CountLemmas.{sum_same, sum_less, sum_plus, sum_none, sum_one, self_same, same_number}
+use Rattle.caf_carriers.proofs.TotalLemmas.{eq_comm}
+use Rattle.caf_steady.specs.Outline.{Bare, bare}
+
+-- ---- lists whose items all weigh the same
+
+abbrev pub heavy : {A : Type 0} → ℕ → List A → ℕ
+heavy w [] = 0
+heavy w (x ∷ xs) = w + heavy w xs
+
+pub heavy_append : {A : Type 0} (w : ℕ) (xs ys : List A) → heavy w (xs ++ ys) ≡ heavy w xs + heavy w ys
+heavy_append w [] ys = omega arith
+heavy_append w (x ∷ xs) ys = let rest = heavy_append w xs ys in omega (arith, rest)
+
+heavy_next : {A : Type 0} (w : ℕ) (xs : List A) → heavy (suc w) xs ≡ length xs + heavy w xs
+heavy_next w [] = omega arith
+heavy_next w (x ∷ xs) = let rest = heavy_next w xs in omega (arith, rest)
+
+heavy_prefix : (w : ℕ) (xs ys : List Taken) → IsPrefix xs ys → heavy w xs ≤ heavy w ys
+heavy_prefix w xs ys first =
+    let parts = heavy_append w xs first.0 in
+    let all = ap (λ (es : List Taken). heavy w es) first.1 in
+    omega (arith, parts, all)
+
+-- ---- sums over places
+
+sum_most : (n place x : ℕ) → sum_below n (λ i. cond (i == place) x 0) ≤ x
+sum_most zero place x = omega arith
+sum_most (suc n) place x = go (n == place) refl (sum_most n place x)
+  where
+    go : (b : Bool) → (n == place) ≡ b → sum_below n (λ i. cond (i == place) x 0) ≤ x → sum_below (suc n) (λ i. cond (i == place) x 0) ≤ x
+    go true q rest =
+        let none : sum_below n (λ i. cond (i == place) x 0) ≡ 0 = sum_none n (λ i. cond (i == place) x 0) (λ i less. (let other : (i == place) ≡ false = grind (arith, nat_tests) in rw other refl)) in
+        let last : cond (n == place) x 0 ≡ x = rw q refl in
+        omega (arith, none, last)
+    go false q rest = let last : cond (n == place) x 0 ≡ 0 = rw q refl in omega (arith, rest, last)
+
+pub sum_swap : (n m : ℕ) (f : ℕ → ℕ → ℕ) → sum_below n (λ b. sum_below m (λ a. f a b)) ≡ sum_below m (λ a. sum_below n (λ b. f a b))
+sum_swap zero m f = sym (sum_none m (λ a. 0) (λ i less. refl))
+sum_swap (suc n) m f =
+    let rest = sum_swap n m f in
+    let both = sum_plus m (λ a. sum_below n (λ b. f a b)) (λ a. f a n) in
+    omega (arith, rest, both)
+
+-- ---- by sender
+
+by_sender : (n w : ℕ) (es : List Taken) → AllByRecursion (λ e. (e.sender < n) ⊎ (outside ≡ e.sender)) es
+    → heavy w es ≤ sum_below n (λ a. heavy w (from_place a es)) + heavy w (from_place outside es)
+by_sender n w [] all = omega arith
+by_sender n w (e ∷ es) all = go all.0 (by_sender n w es all.1)
+  where
+    from_one : (a : ℕ) (b : Bool) → (a == e.sender) ≡ b → heavy w (from_place a (e ∷ es)) ≡ cond (a == e.sender) w 0 + heavy w (from_place a es)
+    from_one a true q = let r : (e.sender == a) ≡ true = eq_comm e.sender a ∙ q in rw (r, q) refl
+    from_one a false q = let r : (e.sender == a) ≡ false = eq_comm e.sender a ∙ q in rw (r, q) (omega arith)
+
+    sums : sum_below n (λ a. heavy w (from_place a (e ∷ es))) ≡ sum_below n (λ a. cond (a == e.sender) w 0) + sum_below n (λ a. heavy w (from_place a es))
+    sums =
+        sum_same n (λ a. heavy w (from_place a (e ∷ es))) (λ a. cond (a == e.sender) w 0 + heavy w (from_place a es)) (λ a less. from_one a (a == e.sender) refl)
+        ∙ sum_plus n (λ a. cond (a == e.sender) w 0) (λ a. heavy w (from_place a es))
+
+    go : (e.sender < n) ⊎ (outside ≡ e.sender) → heavy w es ≤ sum_below n (λ a. heavy w (from_place a es)) + heavy w (from_place outside es)
+        → heavy w (e ∷ es) ≤ sum_below n (λ a. heavy w (from_place a (e ∷ es))) + heavy w (from_place outside (e ∷ es))
+    go (inl inside) rest =
+        let it = sum_one n e.sender w inside in
+        let last = from_one outside (outside == e.sender) refl in
+        let both = sums in
+        omega (arith, rest, it, last, both)
+    go (inr here) rest =
+        let yes : (outside == e.sender) ≡ true = grind (arith, nat_tests, here) in
+        let it : cond (outside == e.sender) w 0 ≡ w = rw yes refl in
+        let last = from_one outside (outside == e.sender) refl in
+        let both = sums in
+        omega (arith, rest, it, last, both)
+
+all_senders : (P : Taken → Type 0) (es : List Taken) → ((a : ℕ) → AllByRecursion P (from_place a es)) → AllByRecursion P es
+all_senders P [] each = tt
+all_senders P (e ∷ es) each =
+    (let here : AllByRecursion P (e ∷ from_place e.sender es) = rw (self_same e.sender) at (each e.sender) in here.0, all_senders P es (λ a. later a (e.sender == a) refl))
+  where
+    later : (a : ℕ) (b : Bool) → (e.sender == a) ≡ b → AllByRecursion P (from_place a es)
+    later a true q = let both : AllByRecursion P (e ∷ from_place a es) = rw q at (each a) in both.1
+    later a false q = rw q at (each a)
+
+are_from : (a : ℕ) (es : List Taken) → AllByRecursion (λ e. e.sender ≡ a) (from_place a es)
+are_from a [] = tt
+are_from a (e ∷ es) = go (e.sender == a) refl (are_from a es)
+  where
+    go : (b : Bool) → (e.sender == a) ≡ b → AllByRecursion (λ x. x.sender ≡ a) (from_place a es) → AllByRecursion (λ x. x.sender ≡ a) (from_place a (e ∷ es))
+    go true q rest = rw q (same_number e.sender a q, rest)
+    go false q rest = rw q rest
+
+-- ---- by receiver
+
+-- an envelope to place `b` weighs one more than `v b`
+module _ (v : ℕ → ℕ) where
+  abbrev pub weigh : List Bare → ℕ
+  weigh [] = 0
+  weigh (b ∷ bs) = suc (v b.to) + weigh bs
+
+  pub weigh_append : (xs ys : List Bare) → weigh (xs ++ ys) ≡ weigh xs + weigh ys
+  weigh_append [] ys = omega arith
+  weigh_append (x ∷ xs) ys = let rest = weigh_append xs ys in omega (arith, rest)
+
+  by_receiver : (n : ℕ) (ps : List PlainPost) → sum_below n (λ b. heavy (suc (v b)) (to_place b ps)) ≤ weigh (map bare ps)
+  by_receiver n [] = let none = sum_none n (λ b. 0) (λ i less. refl) in omega (arith, none)
+  by_receiver n (p ∷ ps) =
+      let rest = by_receiver n ps in
+      let each = sum_same n (λ b. heavy (suc (v b)) (to_place b (p ∷ ps))) (λ b. cond (b == p.to) (suc (v p.to)) 0 + heavy (suc (v b)) (to_place b ps)) (λ b less. to_one b (b == p.to) refl) in
+      let parts = sum_plus n (λ b. cond (b == p.to) (suc (v p.to)) 0) (λ b. heavy (suc (v b)) (to_place b ps)) in
+      let it = sum_most n p.to (suc (v p.to)) in
+      omega (arith, rest, each, parts, it)
+    where
+      to_one : (b : ℕ) (c : Bool) → (b == p.to) ≡ c → heavy (suc (v b)) (to_place b (p ∷ ps)) ≡ cond (b == p.to) (suc (v p.to)) 0 + heavy (suc (v b)) (to_place b ps)
+      to_one b true q =
+          let r : (p.to == b) ≡ true = eq_comm p.to b ∙ q in
+          let same : v b ≡ v p.to = ap v (same_number b p.to q) in
+          rw (r, q) (omega (arith, same))
+      to_one b false q = let r : (p.to == b) ≡ false = eq_comm p.to b ∙ q in rw (r, q) (omega arith)
+
+  -- ---- a legal record in which the outside sent Start alone
+
+  module _ {S : Type 0} (m : Machine S) (ticks : ℕ) (k : Kept S) (legal : IsLegal m ticks k) (silent : heard (k.journal 0) ≡ []) where
+    abbrev took : ℕ → List Taken
+    took p = joined (k.journal p)
+
+    abbrev sends : ℕ → ℕ → List Taken
+    sends a b = sent m (k.start a) (k.journal a) b
+
+    -- a place that isn't there sends nothing
+    none_sent : (a b : ℕ) → k.places ≤ a → sends a b ≡ []
+    none_sent a b high = ap (λ (bs : List TakenBatch). sent m (k.start a) bs b) (legal.inside a high)
+
+    none_told : (a b : ℕ) → (outside == a) ≡ false → outside_sends k a b ≡ []
+    none_told a b other = ap (λ (c : Bool). when (c && (0 == b)) (told (k.journal 0))) other
+
+    is_inside : (a : ℕ) → a < k.places → (outside == a) ≡ false
+    is_inside a less = let few = legal.places in grind (arith, nat_tests, few, less)
+
+    senders : (b : ℕ) → AllByRecursion (λ e. (e.sender < k.places) ⊎ (outside ≡ e.sender)) (took b)
+    senders b = all_senders (λ e. (e.sender < k.places) ⊎ (outside ≡ e.sender)) (took b) (λ a. go a (outside == a) refl)
+      where
+        none : (a : ℕ) (es : List Taken) → IsPrefix es [] → AllByRecursion (λ e. (e.sender < k.places) ⊎ (outside ≡ e.sender)) es
+        none a [] first = tt
+        none a (e ∷ es) first = let bad : ◌≡◌ {A = List Taken} (e ∷ (es ++ first.0)) [] = first.1 in absurd cc
+
+        those : (a : ℕ) → (a < k.places) ⊎ (outside ≡ a) → AllByRecursion (λ e. (e.sender < k.places) ⊎ (outside ≡ e.sender)) (taken_by k a b)
+        those a is = as_from (taken_by k a b) (are_from a (took b))
+          where
+            as_from : (es : List Taken) → AllByRecursion (λ e. e.sender ≡ a) es → AllByRecursion (λ e. (e.sender < k.places) ⊎ (outside ≡ e.sender)) es
+            as_from [] all = tt
+            as_from (e ∷ es) all = (subst (λ (x : ℕ). (x < k.places) ⊎ (outside ≡ x)) (sym all.0) is, as_from es all.1)
+
+        absent : (a : ℕ) → (outside == a) ≡ false → k.places ≤ a → sent_by m k a b ≡ []
+        absent a other high = ap (λ (es : List Taken). es ++ sends a b) (none_told a b other) ∙ none_sent a b high
+
+        go : (a : ℕ) (c : Bool) → (outside == a) ≡ c → AllByRecursion (λ e. (e.sender < k.places) ⊎ (outside ≡ e.sender)) (taken_by k a b)
+        go a true q = those a (inr (same_number outside a q))
+        go a false q = elim (cases_lt a k.places) [
+          | inl less ↦ those a (inl less)
+          | inr high ↦ none a (taken_by k a b) (subst (IsPrefix (taken_by k a b)) (absent a q high) (legal.pairs a b))
+        ]
+
+    -- what a place sends to another weighs as much as what it posts to it
+    from_inside : (a b w : ℕ) → a < k.places → heavy w (taken_by k a b) ≤ heavy w (sends a b)
+    from_inside a b w less =
+        let most = heavy_prefix w (taken_by k a b) (sent_by m k a b) (legal.pairs a b) in
+        let same = ap (λ (es : List Taken). heavy w (es ++ sends a b)) (none_told a b (is_inside a less)) in
+        omega (arith, most, same)
+
+    -- the outside sends Start to place 0
+    from_outside : (b w : ℕ) → heavy w (taken_by k outside b) ≤ cond (b == 0) w 0
+    from_outside b w = go (b == 0) refl
+      where
+        yes : (outside == outside) ≡ true
+        yes = refl
+
+        most : heavy w (taken_by k outside b) ≤ heavy w (outside_sends k outside b)
+        most =
+            let first = heavy_prefix w (taken_by k outside b) (sent_by m k outside b) (legal.pairs outside b) in
+            let parts = heavy_append w (outside_sends k outside b) (sends outside b) in
+            let none = ap (λ (es : List Taken). heavy w es) (none_sent outside b legal.places) in
+            omega (arith, first, parts, none)
+
+        go : (c : Bool) → (b == 0) ≡ c → heavy w (taken_by k outside b) ≤ cond (b == 0) w 0
+        go true q =
+            let r : (0 == b) ≡ true = eq_comm 0 b ∙ q in
+            let one : heavy w (outside_sends k outside b) ≡ w + 0 = rw r (ap (λ (bs : List TakenBatch). heavy w (start_envelope ∷ joined bs)) silent) in
+            let all = most in
+            let here : cond (b == 0) w 0 ≡ w = rw q refl in
+            omega (arith, one, all, here)
+        go false q =
+            let r : (0 == b) ≡ false = eq_comm 0 b ∙ q in
+            let none : heavy w (outside_sends k outside b) ≡ 0 = rw r refl in
+            let all = most in
+            omega (arith, none, all)
+
+    -- what all places took weighs no more than what they sent, and Start
+    pub all_taken_weigh : sum_below k.places (λ b. heavy (suc (v b)) (took b)) ≤ sum_below k.places (λ a. weigh (map bare (posted m (k.start a) (k.journal a)))) + suc (v 0)
+    all_taken_weigh =
+        let n = k.places in
+        let each = sum_less n (λ b. heavy (suc (v b)) (took b)) (λ b. sum_below n (λ a. heavy (suc (v b)) (sends a b)) + cond (b == 0) (suc (v 0)) 0) (λ b less. at b (b == 0) refl) in
+        let parts = sum_plus n (λ b. sum_below n (λ a. heavy (suc (v b)) (sends a b))) (λ b. cond (b == 0) (suc (v 0)) 0) in
+        let start = sum_most n 0 (suc (v 0)) in
+        let turned = sum_swap n n (λ a b. heavy (suc (v b)) (sends a b)) in
+        let received = sum_less n (λ a. sum_below n (λ b. heavy (suc (v b)) (sends a b))) (λ a. weigh (map bare (posted m (k.start a) (k.journal a)))) (λ a less. by_receiver n (posted m (k.start a) (k.journal a))) in
+        omega (arith, each, parts, start, turned, received)
+      where
+        at : (b : ℕ) (c : Bool) → (b == 0) ≡ c → heavy (suc (v b)) (took b) ≤ sum_below k.places (λ a. heavy (suc (v b)) (sends a b)) + cond (b == 0) (suc (v 0)) 0
+        at b c q =
+            let w = suc (v b) in
+            let parts = by_sender k.places w (took b) (senders b) in
+            let inside = sum_less k.places (λ a. heavy w (taken_by k a b)) (λ a. heavy w (sends a b)) (λ a less. from_inside a b w less) in
+            let out = from_outside b w in
+            let same = start_only c q in
+            omega (arith, parts, inside, out, same)
+          where
+            start_only : (c : Bool) → (b == 0) ≡ c → cond (b == 0) (suc (v b)) 0 ≡ cond (b == 0) (suc (v 0)) 0
+            start_only true q = let here : v b ≡ v 0 = ap v (same_number b 0 q) in rw q (ap suc here)
+            start_only false q = rw q refl
+
+    -- ---- how many were handled
+
+    few_handled : ((p : ℕ) → p < k.places → m.cached_in (k.start p) ≡ 0) → handled m k ≤ sum_below k.places (λ p. length (took p))
+    few_handled fresh = sum_less k.places (handled_at m k) (λ p. length (took p)) (λ p less. let none = fresh p less in omega (arith, none))
+
+    -- where each place sends no more than what it has, and what it took brings, all together handle no more than what
+    -- they have, and Start
+    pub handled_most : (has : ℕ → ℕ) → ((p : ℕ) → p < k.places → m.cached_in (k.start p) ≡ 0)
+        → ((p : ℕ) → p < k.places → weigh (map bare (posted m (k.start p) (k.journal p))) ≤ has p + heavy (v p) (took p))
+        → handled m k ≤ sum_below k.places has + suc (v 0)
+    handled_most has fresh pays =
+        let n = k.places in
+        let few = few_handled fresh in
+        let all = all_taken_weigh in
+        let each = sum_same n (λ b. heavy (suc (v b)) (took b)) (λ b. length (took b) + heavy (v b) (took b)) (λ b less. heavy_next (v b) (took b)) in
+        let parts = sum_plus n (λ b. length (took b)) (λ b. heavy (v b) (took b)) in
+        let paid = sum_less n (λ p. weigh (map bare (posted m (k.start p) (k.journal p)))) (λ p. has p + heavy (v p) (took p)) pays in
+        let halves = sum_plus n has (λ p. heavy (v p) (took p)) in
+        omega (arith, few, all, each, parts, paid, halves)

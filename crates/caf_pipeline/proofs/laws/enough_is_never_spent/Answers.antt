@@ -1,0 +1,4 @@
+use Rattle.caf_pipeline.proofs.laws.enough_is_never_spent.Goals as goal
+
+pub returns : goal.returns
+returns c = ?
