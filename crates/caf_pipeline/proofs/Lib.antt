@@ -29,3 +29,4 @@ pub mod RestLemmas
 pub mod BegunLemmas
 pub mod UndisturbedLemmas
 pub mod WeightLemmas
+pub mod CostLemmas

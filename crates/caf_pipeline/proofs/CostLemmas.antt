@@ -1,0 +1,193 @@
+-- What sending costs a steady actor: each envelope its weight, and each hold that is kept one envelope more.
+use Rattle.std.proofs.Common.{◌≡◌, ℕ, suc, ◌+◌, ◌≤◌, ◌==◌, ◌&&◌, nat_le, Bool, true, false, List, [], ◌∷◌, ◌++◌, length, Option, Some, None, refl, sym, subst, ap, ◌∙◌, arith}
+use Rattle.std.specs.Prelude.{if◌then◌else◌}
+use Rattle.caf_types.specs.Limits.{last_count}
+use Rattle.caf_types.specs.declared.notice.Mid.{Mid}
+use Rattle.caf_types.specs.declared.notice.Priority.{Priority}
+use Rattle.caf_types.specs.declared.notice.Priority.TheVariants.{Urgent}
+use Rattle.caf_types.specs.declared.notice.Notice.TheVariants as notice
+use Rattle.caf_types.specs.declared.shape.TypeId.{TypeId}
+use Rattle.caf_message.specs.Content.{ids_in}
+use Rattle.caf_message.specs.Envelope.{no_request}
+use Rattle.caf_message.specs.Lists.{keep, pick}
+use Rattle.caf_message.specs.declared.envelope.Plain.{Plain}
+use Rattle.caf_message.specs.declared.envelope.Plain.TheVariants as «plain»
+use Rattle.caf_response.specs.declared.pending.Mode.{Mode}
+use Rattle.caf_response.specs.Holds.{is_before, is_of, take_hold, with_hold}
+use Rattle.caf_response.specs.Lines.{put_in}
+use Rattle.caf_response.specs.Pending.{issued}
+use Rattle.caf_response.specs.Promise.{response_mid}
+use Rattle.caf_response.specs.Promised.{Promised}
+use Rattle.caf_actor.specs.declared.origin.Origin.{Origin}
+use Rattle.caf_actor.specs.Answering.{is_asked, promised_to}
+use Rattle.caf_actor.specs.PlainInput.{PlainInput, Content}
+use Rattle.caf_actor.specs.PlainOutput.{PlainOutput, Tell, TellMany, Request, Exit, Link, Unlink, Watch, Unwatch, Deliver, Break, Spawn, Tick, Delay, Within}
+use Rattle.caf_actor.specs.PlainReaction.{PlainAnswer, Value, Error, Delegate, Hold, Nothing}
+use Rattle.caf_actor.specs.Rules.{Rules, is_input}
+use Rattle.caf_actor.specs.Sending.{mid_of}
+use Rattle.caf_carriers.proofs.CountLemmas.{same_number}
+use Rattle.caf_kinds.specs.Keeping.{first_of_and}
+use Rattle.caf_steady.specs.Outline.{Outlined, Bare, with_outline, send, tell, tell_many, reply, request, settle_hold, settle, send_output, send_outputs, answer_request, answer_tell, answer}
+use Rattle.caf_steady.specs.Reading.{react, content}
+use Rattle.caf_pipeline.proofs.WeightLemmas.{weigh, weigh_append}
+
+-- ---- holds
+
+picked : {A : Type 0} (test : A → Bool) (xs : List A) (p : A × List A) → pick test xs ≡ Some p → (test p.0 ≡ true) × (length xs ≡ suc (length p.1))
+picked test [] p e = absurd cc
+picked {A} test (x ∷ xs) p e = go (test x) refl (pick test xs) refl (picked test xs) e
+  where
+    Is : A × List A → Type 0
+    Is r = (test r.0 ≡ true) × (suc (length xs) ≡ suc (length r.1))
+
+    go : (b : Bool) → test x ≡ b → (found : Option (A × List A)) → pick test xs ≡ found → ((q : A × List A) → pick test xs ≡ Some q → (test q.0 ≡ true) × (length xs ≡ suc (length q.1)))
+        → (if b then Some (x, xs) else keep x found) ≡ Some p → Is p
+    go true q found r later f = let same : (x, xs) ≡ p = cc in subst Is same (q, refl)
+    go false q None r later f = absurd cc
+    go false q (Some rest) r later f = let now = later rest r in let same : (rest.0, x ∷ rest.1) ≡ p = cc in subst Is same (now.0, ap suc now.1)
+
+put_long : {A : Type 0} (before : A → A → Bool) (xs : List A) (x : A) → length (put_in before xs x) ≡ suc (length xs)
+put_long before [] x = refl
+put_long before (y ∷ ys) x = go (before y x) (before x y) refl (put_long before ys x)
+  where
+    go : (c b : Bool) → before x y ≡ b → length (put_in before ys x) ≡ suc (length ys) → length (put_in before (y ∷ ys) x) ≡ suc (suc (length ys))
+    go c true q rest = rw q refl
+    go c false q rest = rw q (ap suc rest)
+
+-- ---- what an actor has spent
+
+module _ (v : ℕ → ℕ) where
+  -- ---- what is to be paid
+
+  abbrev pub many : List ℕ → ℕ
+  many [] = 0
+  many (to ∷ places) = suc (v to) + many places
+
+  -- a hold that is settled is one hold less
+  abbrev pub cost : PlainOutput → ℕ
+  cost (Tell to priority words) = suc (v to)
+  cost (TellMany places priority words) = many places
+  cost (Request to priority mode tag expected words) = suc (v to)
+  cost (Exit to reason) = suc (v to)
+  cost (Deliver requester number words) = v requester
+  cost (Break requester number sec) = v requester
+  cost _ = 0
+
+  abbrev pub costs : List PlainOutput → ℕ
+  costs [] = 0
+  costs (o ∷ os) = cost o + costs os
+
+  pub costs_append : (xs ys : List PlainOutput) → costs (xs ++ ys) ≡ costs xs + costs ys
+  costs_append [] ys = omega arith
+  costs_append (x ∷ xs) ys = let rest = costs_append xs ys in omega (arith, rest)
+
+  -- a request that is kept is one hold more
+  abbrev pub answer_cost : Bool → Origin → PlainAnswer → ℕ
+  answer_cost true origin (Value value) = suc (v origin.mid.requester)
+  answer_cost true origin (Error sec) = suc (v origin.mid.requester)
+  answer_cost true origin (Delegate to) = suc (v to)
+  answer_cost true origin Hold = 1
+  answer_cost true origin Nothing = 0
+  answer_cost false origin (Delegate to) = suc (v to)
+  answer_cost false origin _ = 0
+
+  module _ {S : Type 0} where
+    abbrev pub spent : Outlined S → ℕ
+    spent o = weigh v o.sent + length o.outline.holds
+
+    -- ---- outputs
+
+    send_costs : (o : Outlined S) (to : ℕ) (mid : Mid) (priority : Priority) (body : Plain) → spent (send o to mid priority body) ≡ spent o + suc (v to)
+    send_costs o to mid priority body =
+        let one : Bare = record { sender = o.outline.place; to = to; mid = mid; priority = priority; body = body } in
+        let all = weigh_append v o.sent (one ∷ []) in
+        omega (arith, all)
+
+    many_costs : (o : Outlined S) (places : List ℕ) (priority : Priority) (words : List ℕ) → spent (tell_many o places priority words) ≡ spent o + many places
+    many_costs o [] priority words = omega arith
+    many_costs o (to ∷ places) priority words =
+        let first = send_costs o to (no_request o.outline.place) priority («plain».Content words) in
+        let rest = many_costs (tell o to priority words) places priority words in
+        omega (arith, first, rest)
+
+    request_costs : (o : Outlined S) (to : ℕ) (priority : Priority) (mode : Mode) (tag : ℕ) (expected : List TypeId) (words : List ℕ) → spent (request o to priority mode tag expected words) ≤ spent o + suc (v to)
+    request_costs o to priority mode tag expected words = go (nat_le o.outline.pending.next last_count) refl
+      where
+        go : (b : Bool) → nat_le o.outline.pending.next last_count ≡ b → spent (request o to priority mode tag expected words) ≤ spent o + suc (v to)
+        go true q =
+            let one = send_costs (with_outline o (record o.outline { pending = issued o.outline.pending mode tag expected })) to (mid_of o.outline.place o.outline.pending.next) priority («plain».Content words) in
+            rw q (omega (arith, one))
+        go false q = rw q (omega arith)
+
+    settle_costs : (o : Outlined S) (requester number : ℕ) (body : Plain) → spent (settle o requester number body) ≤ spent o + v requester
+    settle_costs o requester number body = go (take_hold o.outline.holds requester number) refl
+      where
+        go : (found : Option (Promised × List Promised)) → take_hold o.outline.holds requester number ≡ found → spent (settle_hold o found body) ≤ spent o + v requester
+        go None q = omega arith
+        go (Some found) q =
+            let is = picked (is_of requester number) o.outline.holds found q in
+            let same : v found.0.mid.requester ≡ v requester = ap v (same_number found.0.mid.requester requester (first_of_and (found.0.mid.requester == requester) (found.0.mid.number == number) is.0)) in
+            let one = send_costs (with_outline o (record o.outline { holds = found.1 })) found.0.mid.requester (response_mid found.0.mid) found.0.priority body in
+            let less = is.1 in
+            omega (arith, one, same, less)
+
+    output_costs : (o : Outlined S) (one : PlainOutput) → spent (send_output o one) ≤ spent o + cost one
+    output_costs o (Tell to priority words) = let one = send_costs o to (no_request o.outline.place) priority («plain».Content words) in omega (arith, one)
+    output_costs o (TellMany places priority words) = let all = many_costs o places priority words in omega (arith, all)
+    output_costs o (Request to priority mode tag expected words) = request_costs o to priority mode tag expected words
+    output_costs o (Exit to reason) = let one = send_costs o to (no_request o.outline.place) Urgent («plain».System (notice.Exit o.outline.place reason)) in omega (arith, one)
+    output_costs o (Deliver requester number words) = settle_costs o requester number («plain».Content words)
+    output_costs o (Break requester number sec) = settle_costs o requester number («plain».Failure sec)
+    output_costs o (Link to) = omega arith
+    output_costs o (Unlink to) = omega arith
+    output_costs o (Watch to) = omega arith
+    output_costs o (Unwatch to) = omega arith
+    output_costs o (Spawn place) = omega arith
+    output_costs o (Tick to) = omega arith
+    output_costs o (Delay ticks to priority words) = omega arith
+    output_costs o (Within ticks to priority mode tag expected words) = omega arith
+
+    outputs_cost : (o : Outlined S) (all : List PlainOutput) → spent (send_outputs o all) ≤ spent o + costs all
+    outputs_cost o [] = omega arith
+    outputs_cost o (one ∷ more) =
+        let first = output_costs o one in
+        let rest = outputs_cost (send_output o one) more in
+        omega (arith, first, rest)
+
+    -- ---- answers
+
+    answer_costs : (o : Outlined S) (origin : Origin) (words : List ℕ) (a : PlainAnswer) → spent (answer o origin words a) ≤ spent o + answer_cost (is_asked origin) origin a
+    answer_costs o origin words a = go (is_asked origin) refl
+      where
+        asked : (b : PlainAnswer) → spent (answer_request o (promised_to origin) words b) ≤ spent o + answer_cost true origin b
+        asked (Value value) = let one = send_costs o origin.mid.requester (response_mid origin.mid) origin.priority («plain».Content value) in omega (arith, one)
+        asked (Error sec) = let one = send_costs o origin.mid.requester (response_mid origin.mid) origin.priority («plain».Failure sec) in omega (arith, one)
+        asked (Delegate to) = let one = send_costs o to origin.mid origin.priority («plain».Content words) in omega (arith, one)
+        asked Hold = let one = put_long is_before o.outline.holds (promised_to origin) in omega (arith, one)
+        asked Nothing = omega arith
+
+        told : (b : PlainAnswer) → spent (answer_tell o origin words b) ≤ spent o + answer_cost false origin b
+        told (Value value) = omega arith
+        told (Error sec) = omega arith
+        told (Delegate to) = let one = send_costs o to (no_request o.outline.place) origin.priority («plain».Content words) in omega (arith, one)
+        told Hold = omega arith
+        told Nothing = omega arith
+
+        go : (b : Bool) → is_asked origin ≡ b → spent (answer o origin words a) ≤ spent o + answer_cost (is_asked origin) origin a
+        go true q = rw q (asked a)
+        go false q = rw q (told a)
+
+    -- ---- inputs
+
+    module _ (rules : Rules S) where
+      pub react_costs : (o : Outlined S) (i : PlainInput) → spent (react rules o i) ≤ spent o + costs (rules.reaction o.outline.behavior i).outputs
+      react_costs o i =
+          outputs_cost (with_outline o (record o.outline { behavior = rules.next o.outline.behavior i })) (rules.reaction o.outline.behavior i).outputs
+
+      pub content_costs : (o : Outlined S) (origin : Origin) (words : List ℕ) → is_input (rules.interface o.outline.behavior) (ids_in words) ≡ true
+          → spent (content rules o origin words)
+          ≤ spent o + costs (rules.reaction o.outline.behavior (Content origin words)).outputs + answer_cost (is_asked origin) origin (rules.reaction o.outline.behavior (Content origin words)).answer
+      content_costs o origin words taken =
+          let first = react_costs o (Content origin words) in
+          let last = answer_costs (react rules o (Content origin words)) origin words (rules.reaction o.outline.behavior (Content origin words)).answer in
+          rw taken (omega (arith, first, last))
