@@ -28,7 +28,6 @@ use Rattle.caf_actor.specs.Sending.{mid_of}
 use Rattle.caf_carriers.proofs.CountLemmas.{same_number}
 use Rattle.caf_kinds.specs.Keeping.{first_of_and}
 use Rattle.caf_steady.specs.Outline.{Outlined, Bare, with_outline, send, tell, tell_many, reply, request, settle_hold, settle, send_output, send_outputs, answer_request, answer_tell, answer}
-use Rattle.caf_steady.specs.Reading.{react, content}
 use Rattle.caf_pipeline.proofs.WeightLemmas.{weigh, weigh_append}
 
 -- ---- holds
@@ -91,103 +90,104 @@ module _ (v : ℕ → ℕ) where
   answer_cost false origin (Delegate to) = suc (v to)
   answer_cost false origin _ = 0
 
+  -- ---- what an actor has spent
+
   module _ {S : Type 0} where
     abbrev pub spent : Outlined S → ℕ
     spent o = weigh v o.sent + length o.outline.holds
 
-    -- ---- outputs
+    -- it goes on with the same value, and has spent at most so much more
+    pub record Spends (n : ℕ) (o after : Outlined S) : Type 0 where
+      pub same : after.outline.behavior ≡ o.outline.behavior
+      pub within : spent after ≤ spent o + n
 
-    send_costs : (o : Outlined S) (to : ℕ) (mid : Mid) (priority : Priority) (body : Plain) → spent (send o to mid priority body) ≡ spent o + suc (v to)
-    send_costs o to mid priority body =
+    send_spends : (o : Outlined S) (to : ℕ) (mid : Mid) (priority : Priority) (body : Plain) → Spends (suc (v to)) o (send o to mid priority body)
+    send_spends o to mid priority body =
         let one : Bare = record { sender = o.outline.place; to = to; mid = mid; priority = priority; body = body } in
         let all = weigh_append v o.sent (one ∷ []) in
-        omega (arith, all)
+        record { same = refl; within = omega (arith, all) }
 
-    many_costs : (o : Outlined S) (places : List ℕ) (priority : Priority) (words : List ℕ) → spent (tell_many o places priority words) ≡ spent o + many places
-    many_costs o [] priority words = omega arith
-    many_costs o (to ∷ places) priority words =
-        let first = send_costs o to (no_request o.outline.place) priority («plain».Content words) in
-        let rest = many_costs (tell o to priority words) places priority words in
-        omega (arith, first, rest)
+    none_spends : (o : Outlined S) → Spends 0 o o
+    none_spends o = record { same = refl; within = omega arith }
 
-    request_costs : (o : Outlined S) (to : ℕ) (priority : Priority) (mode : Mode) (tag : ℕ) (expected : List TypeId) (words : List ℕ) → spent (request o to priority mode tag expected words) ≤ spent o + suc (v to)
-    request_costs o to priority mode tag expected words = go (nat_le o.outline.pending.next last_count) refl
+    -- ---- outputs
+
+    many_spends : (o : Outlined S) (places : List ℕ) (priority : Priority) (words : List ℕ) → Spends (many places) o (tell_many o places priority words)
+    many_spends o [] priority words = none_spends o
+    many_spends o (to ∷ places) priority words =
+        let first = (send_spends o to (no_request o.outline.place) priority («plain».Content words)).within in
+        let rest = many_spends (tell o to priority words) places priority words in
+        let more = rest.within in
+        record { same = rest.same; within = omega (arith, first, more) }
+
+    request_spends : (o : Outlined S) (to : ℕ) (priority : Priority) (mode : Mode) (tag : ℕ) (expected : List TypeId) (words : List ℕ) → Spends (suc (v to)) o (request o to priority mode tag expected words)
+    request_spends o to priority mode tag expected words = go (nat_le o.outline.pending.next last_count) refl
       where
-        go : (b : Bool) → nat_le o.outline.pending.next last_count ≡ b → spent (request o to priority mode tag expected words) ≤ spent o + suc (v to)
+        asking : Outlined S
+        asking = with_outline o (record o.outline { pending = issued o.outline.pending mode tag expected })
+
+        go : (b : Bool) → nat_le o.outline.pending.next last_count ≡ b → Spends (suc (v to)) o (request o to priority mode tag expected words)
         go true q =
-            let one = send_costs (with_outline o (record o.outline { pending = issued o.outline.pending mode tag expected })) to (mid_of o.outline.place o.outline.pending.next) priority («plain».Content words) in
-            rw q (omega (arith, one))
-        go false q = rw q (omega arith)
+            let one = (send_spends asking to (mid_of o.outline.place o.outline.pending.next) priority («plain».Content words)).within in
+            rw q (record { same = refl; within = omega (arith, one) })
+        go false q = rw q (record { same = refl; within = omega arith })
 
-    settle_costs : (o : Outlined S) (requester number : ℕ) (body : Plain) → spent (settle o requester number body) ≤ spent o + v requester
-    settle_costs o requester number body = go (take_hold o.outline.holds requester number) refl
+    settle_spends : (o : Outlined S) (requester number : ℕ) (body : Plain) → Spends (v requester) o (settle o requester number body)
+    settle_spends o requester number body = go (take_hold o.outline.holds requester number) refl
       where
-        go : (found : Option (Promised × List Promised)) → take_hold o.outline.holds requester number ≡ found → spent (settle_hold o found body) ≤ spent o + v requester
-        go None q = omega arith
+        go : (found : Option (Promised × List Promised)) → take_hold o.outline.holds requester number ≡ found → Spends (v requester) o (settle_hold o found body)
+        go None q = record { same = refl; within = omega arith }
         go (Some found) q =
             let is = picked (is_of requester number) o.outline.holds found q in
-            let same : v found.0.mid.requester ≡ v requester = ap v (same_number found.0.mid.requester requester (first_of_and (found.0.mid.requester == requester) (found.0.mid.number == number) is.0)) in
-            let one = send_costs (with_outline o (record o.outline { holds = found.1 })) found.0.mid.requester (response_mid found.0.mid) found.0.priority body in
+            let to : v found.0.mid.requester ≡ v requester = ap v (same_number found.0.mid.requester requester (first_of_and (found.0.mid.requester == requester) (found.0.mid.number == number) is.0)) in
+            let one = (send_spends (with_outline o (record o.outline { holds = found.1 })) found.0.mid.requester (response_mid found.0.mid) found.0.priority body).within in
             let less = is.1 in
-            omega (arith, one, same, less)
+            record { same = refl; within = omega (arith, one, to, less) }
 
-    output_costs : (o : Outlined S) (one : PlainOutput) → spent (send_output o one) ≤ spent o + cost one
-    output_costs o (Tell to priority words) = let one = send_costs o to (no_request o.outline.place) priority («plain».Content words) in omega (arith, one)
-    output_costs o (TellMany places priority words) = let all = many_costs o places priority words in omega (arith, all)
-    output_costs o (Request to priority mode tag expected words) = request_costs o to priority mode tag expected words
-    output_costs o (Exit to reason) = let one = send_costs o to (no_request o.outline.place) Urgent («plain».System (notice.Exit o.outline.place reason)) in omega (arith, one)
-    output_costs o (Deliver requester number words) = settle_costs o requester number («plain».Content words)
-    output_costs o (Break requester number sec) = settle_costs o requester number («plain».Failure sec)
-    output_costs o (Link to) = omega arith
-    output_costs o (Unlink to) = omega arith
-    output_costs o (Watch to) = omega arith
-    output_costs o (Unwatch to) = omega arith
-    output_costs o (Spawn place) = omega arith
-    output_costs o (Tick to) = omega arith
-    output_costs o (Delay ticks to priority words) = omega arith
-    output_costs o (Within ticks to priority mode tag expected words) = omega arith
+    output_spends : (o : Outlined S) (one : PlainOutput) → Spends (cost one) o (send_output o one)
+    output_spends o (Tell to priority words) = send_spends o to (no_request o.outline.place) priority («plain».Content words)
+    output_spends o (TellMany places priority words) = many_spends o places priority words
+    output_spends o (Request to priority mode tag expected words) = request_spends o to priority mode tag expected words
+    output_spends o (Exit to reason) = send_spends o to (no_request o.outline.place) Urgent («plain».System (notice.Exit o.outline.place reason))
+    output_spends o (Deliver requester number words) = settle_spends o requester number («plain».Content words)
+    output_spends o (Break requester number sec) = settle_spends o requester number («plain».Failure sec)
+    output_spends o (Link to) = none_spends o
+    output_spends o (Unlink to) = none_spends o
+    output_spends o (Watch to) = none_spends o
+    output_spends o (Unwatch to) = none_spends o
+    output_spends o (Spawn place) = none_spends o
+    output_spends o (Tick to) = none_spends o
+    output_spends o (Delay ticks to priority words) = none_spends o
+    output_spends o (Within ticks to priority mode tag expected words) = none_spends o
 
-    outputs_cost : (o : Outlined S) (all : List PlainOutput) → spent (send_outputs o all) ≤ spent o + costs all
-    outputs_cost o [] = omega arith
-    outputs_cost o (one ∷ more) =
-        let first = output_costs o one in
-        let rest = outputs_cost (send_output o one) more in
-        omega (arith, first, rest)
+    pub outputs_spend : (o : Outlined S) (all : List PlainOutput) → Spends (costs all) o (send_outputs o all)
+    outputs_spend o [] = none_spends o
+    outputs_spend o (one ∷ more) =
+        let first = output_spends o one in
+        let rest = outputs_spend (send_output o one) more in
+        let now = first.within in
+        let later = rest.within in
+        record { same = rest.same ∙ first.same; within = omega (arith, now, later) }
 
     -- ---- answers
 
-    answer_costs : (o : Outlined S) (origin : Origin) (words : List ℕ) (a : PlainAnswer) → spent (answer o origin words a) ≤ spent o + answer_cost (is_asked origin) origin a
-    answer_costs o origin words a = go (is_asked origin) refl
+    pub answer_spends : (o : Outlined S) (origin : Origin) (words : List ℕ) (a : PlainAnswer) → Spends (answer_cost (is_asked origin) origin a) o (answer o origin words a)
+    answer_spends o origin words a = go (is_asked origin) refl
       where
-        asked : (b : PlainAnswer) → spent (answer_request o (promised_to origin) words b) ≤ spent o + answer_cost true origin b
-        asked (Value value) = let one = send_costs o origin.mid.requester (response_mid origin.mid) origin.priority («plain».Content value) in omega (arith, one)
-        asked (Error sec) = let one = send_costs o origin.mid.requester (response_mid origin.mid) origin.priority («plain».Failure sec) in omega (arith, one)
-        asked (Delegate to) = let one = send_costs o to origin.mid origin.priority («plain».Content words) in omega (arith, one)
-        asked Hold = let one = put_long is_before o.outline.holds (promised_to origin) in omega (arith, one)
-        asked Nothing = omega arith
+        asked : (b : PlainAnswer) → Spends (answer_cost true origin b) o (answer_request o (promised_to origin) words b)
+        asked (Value value) = send_spends o origin.mid.requester (response_mid origin.mid) origin.priority («plain».Content value)
+        asked (Error sec) = send_spends o origin.mid.requester (response_mid origin.mid) origin.priority («plain».Failure sec)
+        asked (Delegate to) = send_spends o to origin.mid origin.priority («plain».Content words)
+        asked Hold = let one = put_long is_before o.outline.holds (promised_to origin) in record { same = refl; within = omega (arith, one) }
+        asked Nothing = none_spends o
 
-        told : (b : PlainAnswer) → spent (answer_tell o origin words b) ≤ spent o + answer_cost false origin b
-        told (Value value) = omega arith
-        told (Error sec) = omega arith
-        told (Delegate to) = let one = send_costs o to (no_request o.outline.place) origin.priority («plain».Content words) in omega (arith, one)
-        told Hold = omega arith
-        told Nothing = omega arith
+        told : (b : PlainAnswer) → Spends (answer_cost false origin b) o (answer_tell o origin words b)
+        told (Value value) = none_spends o
+        told (Error sec) = none_spends o
+        told (Delegate to) = send_spends o to (no_request o.outline.place) origin.priority («plain».Content words)
+        told Hold = none_spends o
+        told Nothing = none_spends o
 
-        go : (b : Bool) → is_asked origin ≡ b → spent (answer o origin words a) ≤ spent o + answer_cost (is_asked origin) origin a
+        go : (b : Bool) → is_asked origin ≡ b → Spends (answer_cost (is_asked origin) origin a) o (answer o origin words a)
         go true q = rw q (asked a)
         go false q = rw q (told a)
-
-    -- ---- inputs
-
-    module _ (rules : Rules S) where
-      pub react_costs : (o : Outlined S) (i : PlainInput) → spent (react rules o i) ≤ spent o + costs (rules.reaction o.outline.behavior i).outputs
-      react_costs o i =
-          outputs_cost (with_outline o (record o.outline { behavior = rules.next o.outline.behavior i })) (rules.reaction o.outline.behavior i).outputs
-
-      pub content_costs : (o : Outlined S) (origin : Origin) (words : List ℕ) → is_input (rules.interface o.outline.behavior) (ids_in words) ≡ true
-          → spent (content rules o origin words)
-          ≤ spent o + costs (rules.reaction o.outline.behavior (Content origin words)).outputs + answer_cost (is_asked origin) origin (rules.reaction o.outline.behavior (Content origin words)).answer
-      content_costs o origin words taken =
-          let first = react_costs o (Content origin words) in
-          let last = answer_costs (react rules o (Content origin words)) origin words (rules.reaction o.outline.behavior (Content origin words)).answer in
-          rw taken (omega (arith, first, last))

@@ -30,3 +30,4 @@ pub mod BegunLemmas
 pub mod UndisturbedLemmas
 pub mod WeightLemmas
 pub mod CostLemmas
+pub mod PayLemmas
