@@ -31,3 +31,5 @@ pub mod UndisturbedLemmas
 pub mod WeightLemmas
 pub mod CostLemmas
 pub mod PayLemmas
+pub mod PriceLemmas
+pub mod TellerPayLemmas
