@@ -33,3 +33,4 @@ pub mod CostLemmas
 pub mod PayLemmas
 pub mod PriceLemmas
 pub mod TellerPayLemmas
+pub mod CollectorPayLemmas
