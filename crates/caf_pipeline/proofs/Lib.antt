@@ -34,3 +34,4 @@ pub mod PayLemmas
 pub mod PriceLemmas
 pub mod TellerPayLemmas
 pub mod CollectorPayLemmas
+pub mod SourcePayLemmas

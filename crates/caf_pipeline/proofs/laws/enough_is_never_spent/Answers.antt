@@ -1,5 +1,5 @@
-use Rattle.caf_pipeline.proofs.CollectorPayLemmas.{collector_pays}
+use Rattle.caf_pipeline.proofs.SourcePayLemmas.{source_pays}
 use Rattle.caf_pipeline.proofs.laws.enough_is_never_spent.Goals as goal
 
 pub returns : goal.returns
-returns c = let x = collector_pays in ?
+returns c = let x = source_pays in ?
