@@ -35,3 +35,4 @@ pub mod PriceLemmas
 pub mod TellerPayLemmas
 pub mod CollectorPayLemmas
 pub mod SourcePayLemmas
+pub mod ConductorPayLemmas
