@@ -36,3 +36,4 @@ pub mod TellerPayLemmas
 pub mod CollectorPayLemmas
 pub mod SourcePayLemmas
 pub mod ConductorPayLemmas
+pub mod NumberLemmas

@@ -35,7 +35,7 @@ heavy_prefix w xs ys first =
 
 -- ---- sums over places
 
-sum_most : (n place x : ℕ) → sum_below n (λ i. cond (i == place) x 0) ≤ x
+pub sum_most : (n place x : ℕ) → sum_below n (λ i. cond (i == place) x 0) ≤ x
 sum_most zero place x = omega arith
 sum_most (suc n) place x = go (n == place) refl (sum_most n place x)
   where
