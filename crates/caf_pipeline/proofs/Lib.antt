@@ -28,6 +28,7 @@ pub mod GoingLemmas
 pub mod RestLemmas
 pub mod BegunLemmas
 pub mod UndisturbedLemmas
+pub mod HeavyLemmas
 pub mod WeightLemmas
 pub mod CostLemmas
 pub mod PayLemmas
@@ -36,4 +37,5 @@ pub mod TellerPayLemmas
 pub mod CollectorPayLemmas
 pub mod SourcePayLemmas
 pub mod ConductorPayLemmas
+pub mod QuietLemmas
 pub mod NumberLemmas

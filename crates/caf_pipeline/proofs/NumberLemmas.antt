@@ -35,7 +35,7 @@ use Rattle.caf_steady.proofs.ReadingLemmas.{brought_in_turn, reads_in_turn}
 use Rattle.caf_pipeline.specs.Undisturbed.{Pipeline}
 use Rattle.caf_pipeline.specs.Contents.{comes, comes_as}
 use Rattle.caf_pipeline.specs.Flow.{IsUndisturbedRecord}
-use Rattle.caf_pipeline.specs.Numbers.{enough, UndisturbedRunsAreShort}
+use Rattle.caf_pipeline.specs.Numbers.{enough, UndisturbedRunsAreShort, EnoughIsNeverSpent}
 use Rattle.caf_pipeline.proofs.ListLemmas.{got_at}
 use Rattle.caf_pipeline.proofs.PlaceLemmas.{IsSo, setup_from_1, at_each_place}
 use Rattle.caf_pipeline.proofs.OpeningLemmas.{source_place, stands}
@@ -44,10 +44,12 @@ use Rattle.caf_pipeline.proofs.CollectorPayLemmas.{Keeps, collector_pays}
 use Rattle.caf_pipeline.proofs.ConductorPayLemmas.{Conducts, plan_cost, whole_script}
 use Rattle.caf_pipeline.proofs.ConductorPayLemmas as conductor
 use Rattle.caf_pipeline.proofs.PayLemmas.{Has, turns_weigh}
+use Rattle.caf_pipeline.proofs.QuietLemmas.{is_quiet}
 use Rattle.caf_pipeline.proofs.PriceLemmas.{price, PaysFor, all_have}
 use Rattle.caf_pipeline.proofs.SourcePayLemmas.{Funds, source_pays}
 use Rattle.caf_pipeline.proofs.TellerPayLemmas.{Measures, lines_pays, Relays, relay_pays, Counts, counter_pays}
-use Rattle.caf_pipeline.proofs.WeightLemmas.{heavy, weigh, sum_most, handled_most}
+use Rattle.caf_pipeline.proofs.HeavyLemmas.{heavy, sum_most}
+use Rattle.caf_pipeline.proofs.WeightLemmas.{weigh, handled_most}
 
 turns_bring : (may : PlainInput → Bool) (bs : List TakenBatch) → AllByRecursion (Brings may) (joined bs) → AllByRecursion (Brings may) (all_in_turn bs)
 turns_bring may [] all = tt
@@ -193,3 +195,9 @@ module _ (setups : List Setup) (script : List Step) (files : List (List ℕ)) (t
 
 pub runs_are_short : UndisturbedRunsAreShort
 runs_are_short setups script files ticks k ts is = few_handled setups script files ticks k ts is
+
+pub enough_never_spent : EnoughIsNeverSpent
+enough_never_spent setups script files budget k ts is are opens legal merge unstopped many =
+    let silent = is_quiet (machine_of kind_rules) k legal unstopped in
+    let few = runs_are_short setups script files 0 k ts (record { undisturbed = is; indexable = are; opens = opens; legal = legal; merge = merge; silent = silent }) in
+    omega (arith, few, many)

@@ -13,18 +13,9 @@ use Rattle.caf_actor.specs.Rules.{Rules, is_input}
 use Rattle.caf_steady.specs.Outline.{Outlined, with_outline}
 use Rattle.caf_steady.specs.Reading.{react, content, in_turn, all_in_turn}
 use Rattle.caf_pipeline.proofs.CostLemmas.{costs, answer_cost, spent, outputs_spend, answer_spends}
-use Rattle.caf_pipeline.proofs.WeightLemmas.{heavy, heavy_append}
+use Rattle.caf_pipeline.proofs.HeavyLemmas.{heavy, heavy_append, parts_weigh}
 
 -- ---- in turn or not, batches weigh the same
-
-parts_weigh : {A : Type 0} (test : A → Bool) (w : ℕ) (xs : List A) → heavy w (filter test xs) + heavy w (filter (λ x. not (test x)) xs) ≡ heavy w xs
-parts_weigh test w [] = omega arith
-parts_weigh {A} test w (x ∷ xs) = go (test x) refl (parts_weigh test w xs)
-  where
-    go : (b : Bool) → test x ≡ b → heavy w (filter test xs) + heavy w (filter (λ x. not (test x)) xs) ≡ heavy w xs
-        → heavy w (filter test (x ∷ xs)) + heavy w (filter (λ x. not (test x)) (x ∷ xs)) ≡ heavy w (x ∷ xs)
-    go true q rest = rw q (omega (arith, rest))
-    go false q rest = rw q (omega (arith, rest))
 
 pub turns_weigh : (w : ℕ) (bs : List TakenBatch) → heavy w (all_in_turn bs) ≡ heavy w (joined bs)
 turns_weigh w [] = refl

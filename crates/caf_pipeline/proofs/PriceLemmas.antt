@@ -24,7 +24,7 @@ use Rattle.caf_pipeline.specs.Contents.{comes_as, comes}
 use Rattle.caf_pipeline.proofs.CostLemmas.{costs, answer_cost}
 use Rattle.caf_pipeline.proofs.FlowLemmas.{brings_content}
 use Rattle.caf_pipeline.proofs.PayLemmas.{Pays, Has, reply_cost, no_less, content_has}
-use Rattle.caf_pipeline.proofs.WeightLemmas.{heavy}
+use Rattle.caf_pipeline.proofs.HeavyLemmas.{heavy}
 
 -- ---- prices
 
