@@ -12,54 +12,7 @@ use Rattle.caf_actor.specs.declared.journal.TakenBatch.{TakenBatch}
 use Rattle.caf_carriers.proofs.CountLemmas.{sum_same, sum_less, sum_plus, sum_none, sum_one, self_same, same_number}
 use Rattle.caf_carriers.proofs.TotalLemmas.{eq_comm}
 use Rattle.caf_steady.specs.Outline.{Bare, bare}
-use Rattle.caf_pipeline.proofs.HeavyLemmas.{heavy, heavy_append, heavy_next, heavy_prefix, sum_most, sum_swap}
-
--- ---- by sender
-
-by_sender : (n w : ℕ) (es : List Taken) → AllByRecursion (λ e. (e.sender < n) ⊎ (outside ≡ e.sender)) es
-    → heavy w es ≤ sum_below n (λ a. heavy w (from_place a es)) + heavy w (from_place outside es)
-by_sender n w [] all = omega arith
-by_sender n w (e ∷ es) all = go all.0 (by_sender n w es all.1)
-  where
-    from_one : (a : ℕ) (b : Bool) → (a == e.sender) ≡ b → heavy w (from_place a (e ∷ es)) ≡ cond (a == e.sender) w 0 + heavy w (from_place a es)
-    from_one a true q = let r : (e.sender == a) ≡ true = eq_comm e.sender a ∙ q in rw (r, q) refl
-    from_one a false q = let r : (e.sender == a) ≡ false = eq_comm e.sender a ∙ q in rw (r, q) (omega arith)
-
-    sums : sum_below n (λ a. heavy w (from_place a (e ∷ es))) ≡ sum_below n (λ a. cond (a == e.sender) w 0) + sum_below n (λ a. heavy w (from_place a es))
-    sums =
-        sum_same n (λ a. heavy w (from_place a (e ∷ es))) (λ a. cond (a == e.sender) w 0 + heavy w (from_place a es)) (λ a less. from_one a (a == e.sender) refl)
-        ∙ sum_plus n (λ a. cond (a == e.sender) w 0) (λ a. heavy w (from_place a es))
-
-    go : (e.sender < n) ⊎ (outside ≡ e.sender) → heavy w es ≤ sum_below n (λ a. heavy w (from_place a es)) + heavy w (from_place outside es)
-        → heavy w (e ∷ es) ≤ sum_below n (λ a. heavy w (from_place a (e ∷ es))) + heavy w (from_place outside (e ∷ es))
-    go (inl inside) rest =
-        let it = sum_one n e.sender w inside in
-        let last = from_one outside (outside == e.sender) refl in
-        let both = sums in
-        omega (arith, rest, it, last, both)
-    go (inr here) rest =
-        let yes : (outside == e.sender) ≡ true = grind (arith, nat_tests, here) in
-        let it : cond (outside == e.sender) w 0 ≡ w = rw yes refl in
-        let last = from_one outside (outside == e.sender) refl in
-        let both = sums in
-        omega (arith, rest, it, last, both)
-
-all_senders : (P : Taken → Type 0) (es : List Taken) → ((a : ℕ) → AllByRecursion P (from_place a es)) → AllByRecursion P es
-all_senders P [] each = tt
-all_senders P (e ∷ es) each =
-    (let here : AllByRecursion P (e ∷ from_place e.sender es) = rw (self_same e.sender) at (each e.sender) in here.0, all_senders P es (λ a. later a (e.sender == a) refl))
-  where
-    later : (a : ℕ) (b : Bool) → (e.sender == a) ≡ b → AllByRecursion P (from_place a es)
-    later a true q = let both : AllByRecursion P (e ∷ from_place a es) = rw q at (each a) in both.1
-    later a false q = rw q at (each a)
-
-are_from : (a : ℕ) (es : List Taken) → AllByRecursion (λ e. e.sender ≡ a) (from_place a es)
-are_from a [] = tt
-are_from a (e ∷ es) = go (e.sender == a) refl (are_from a es)
-  where
-    go : (b : Bool) → (e.sender == a) ≡ b → AllByRecursion (λ x. x.sender ≡ a) (from_place a es) → AllByRecursion (λ x. x.sender ≡ a) (from_place a (e ∷ es))
-    go true q rest = rw q (same_number e.sender a q, rest)
-    go false q rest = rw q rest
+use Rattle.caf_pipeline.proofs.HeavyLemmas.{heavy, heavy_append, heavy_next, heavy_prefix, sum_most, sum_swap, by_sender, all_senders, are_from}
 
 -- ---- by receiver
 
