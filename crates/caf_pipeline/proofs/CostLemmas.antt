@@ -1,5 +1,5 @@
 -- What sending costs a steady actor: each envelope its weight, and each hold that is kept one envelope more.
-use Rattle.std.proofs.Common.{◌≡◌, ℕ, suc, ◌+◌, ◌≤◌, ◌==◌, ◌&&◌, nat_le, Bool, true, false, List, [], ◌∷◌, ◌++◌, length, Option, Some, None, refl, sym, subst, ap, ◌∙◌, arith}
+use Rattle.std.proofs.Common.{◌≡◌, ℕ, suc, ◌+◌, ◌≤◌, ◌==◌, nat_le, Bool, true, false, List, [], ◌∷◌, ◌++◌, length, Option, Some, None, refl, subst, ap, ◌∙◌, arith}
 use Rattle.std.specs.Prelude.{if◌then◌else◌}
 use Rattle.caf_types.specs.Limits.{last_count}
 use Rattle.caf_types.specs.declared.notice.Mid.{Mid}
@@ -7,27 +7,24 @@ use Rattle.caf_types.specs.declared.notice.Priority.{Priority}
 use Rattle.caf_types.specs.declared.notice.Priority.TheVariants.{Urgent}
 use Rattle.caf_types.specs.declared.notice.Notice.TheVariants as notice
 use Rattle.caf_types.specs.declared.shape.TypeId.{TypeId}
-use Rattle.caf_message.specs.Content.{ids_in}
 use Rattle.caf_message.specs.Envelope.{no_request}
 use Rattle.caf_message.specs.Lists.{keep, pick}
 use Rattle.caf_message.specs.declared.envelope.Plain.{Plain}
 use Rattle.caf_message.specs.declared.envelope.Plain.TheVariants as «plain»
 use Rattle.caf_response.specs.declared.pending.Mode.{Mode}
-use Rattle.caf_response.specs.Holds.{is_before, is_of, take_hold, with_hold}
+use Rattle.caf_response.specs.Holds.{is_before, is_of, take_hold}
 use Rattle.caf_response.specs.Lines.{put_in}
 use Rattle.caf_response.specs.Pending.{issued}
 use Rattle.caf_response.specs.Promise.{response_mid}
 use Rattle.caf_response.specs.Promised.{Promised}
 use Rattle.caf_actor.specs.declared.origin.Origin.{Origin}
 use Rattle.caf_actor.specs.Answering.{is_asked, promised_to}
-use Rattle.caf_actor.specs.PlainInput.{PlainInput, Content}
 use Rattle.caf_actor.specs.PlainOutput.{PlainOutput, Tell, TellMany, Request, Exit, Link, Unlink, Watch, Unwatch, Deliver, Break, Spawn, Tick, Delay, Within}
 use Rattle.caf_actor.specs.PlainReaction.{PlainAnswer, Value, Error, Delegate, Hold, Nothing}
-use Rattle.caf_actor.specs.Rules.{Rules, is_input}
 use Rattle.caf_actor.specs.Sending.{mid_of}
 use Rattle.caf_carriers.proofs.CountLemmas.{same_number}
 use Rattle.caf_kinds.specs.Keeping.{first_of_and}
-use Rattle.caf_steady.specs.Outline.{Outlined, Bare, with_outline, send, tell, tell_many, reply, request, settle_hold, settle, send_output, send_outputs, answer_request, answer_tell, answer}
+use Rattle.caf_steady.specs.Outline.{Outlined, Bare, with_outline, send, tell, tell_many, request, settle_hold, settle, send_output, send_outputs, answer_request, answer_tell, answer}
 use Rattle.caf_pipeline.proofs.WeightLemmas.{weigh, weigh_append}
 
 -- ---- holds

@@ -1,15 +1,13 @@
 -- How many envelopes an undisturbed run handles: no more than its places had to begin with, which is what files and
 -- script are worth.
-use Rattle.std.proofs.Common.{◌≡◌, ℕ, zero, suc, ◌+◌, ◌-◌, ◌*◌, ◌≤◌, ◌<◌, ◌==◌, Bool, true, List, [], ◌∷◌, length, map, cond, Some, refl, sym, subst, ap, ◌∙◌, arith}
-use Rattle.std.specs.Prelude.{slice_get}
+use Rattle.std.proofs.Common.{◌≡◌, ℕ, zero, suc, ◌+◌, ◌*◌, ◌≤◌, ◌<◌, ◌==◌, Bool, true, List, [], ◌∷◌, length, map, cond, Some, refl, sym, ap, ◌∙◌, arith}
 use Rattle.std.specs.List.{AllByRecursion}
 use Rattle.caf_mailbox.proofs.NextLemmas.{all_append}
 use Rattle.caf_mailbox.specs.Caches.{CachedLists}
-use Rattle.caf_message.specs.declared.envelope.Taken.{Taken}
 use Rattle.caf_record.proofs.ListLemmas.{all_left, all_right}
 use Rattle.caf_response.specs.Promised.{Promised}
 use Rattle.caf_actor.specs.PlainInput.{PlainInput}
-use Rattle.caf_actor.specs.Record.{Kept, Machine, machine_of, joined, posted, sum_below, handled}
+use Rattle.caf_actor.specs.Record.{Kept, Machine, machine_of, joined, posted, handled}
 use Rattle.caf_actor.specs.Run.{Turn}
 use Rattle.caf_actor.specs.declared.journal.TakenBatch.{TakenBatch}
 use Rattle.caf_actor.specs.declared.snapshot.Snapshot.{Snapshot}
@@ -22,12 +20,11 @@ use Rattle.caf_kinds.specs.Source as source
 use Rattle.caf_kinds.specs.Starting.{who_of}
 use Rattle.caf_kinds.specs.declared.contents.Chunk.{Chunk}
 use Rattle.caf_kinds.specs.declared.kind.Kind.{Kind}
-use Rattle.caf_kinds.specs.declared.kind.Kind.TheVariants as kind
 use Rattle.caf_kinds.specs.declared.script.Step.{Step}
 use Rattle.caf_kinds.specs.declared.setup.KindName.TheVariants as name
 use Rattle.caf_kinds.specs.declared.setup.Setup.{Setup}
 use Rattle.caf_opening.specs.Opening.{actor_at, conductor_at_0, who_conducts}
-use Rattle.caf_steady.specs.Outline.{Outlined, Bare, outline_of, bare}
+use Rattle.caf_steady.specs.Outline.{Outlined, outline_of, bare}
 use Rattle.caf_steady.specs.Reading.{in_turn, all_in_turn}
 use Rattle.caf_steady.specs.Steady.{Brings, IsSteady, HasRead, reading}
 use Rattle.caf_steady.proofs.ClassLemmas.{steady_behavior}

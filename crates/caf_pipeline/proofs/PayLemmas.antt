@@ -1,7 +1,6 @@
 -- What a steady actor spends on what it took, where each input brings what it costs.
-use Rattle.std.proofs.Common.{◌≡◌, ℕ, ◌+◌, ◌≤◌, Bool, true, false, not, List, [], ◌∷◌, ◌++◌, filter, refl, sym, subst, ap, ◌∙◌, arith}
+use Rattle.std.proofs.Common.{◌≡◌, ℕ, ◌+◌, ◌≤◌, true, List, [], ◌∷◌, filter, refl, sym, subst, ◌∙◌, arith}
 use Rattle.caf_message.specs.Content.{ids_in}
-use Rattle.caf_message.specs.declared.envelope.Taken.{Taken}
 use Rattle.caf_mailbox.specs.Caches.{is_urgent, is_normal}
 use Rattle.caf_actor.specs.declared.journal.TakenBatch.{TakenBatch}
 use Rattle.caf_actor.specs.declared.origin.Origin.{Origin}

@@ -1,10 +1,8 @@
 -- Where no tick was to come and Stop wasn't taken, place 0 took nothing of the outside but Start.
-use Rattle.std.proofs.Common.{◌≡◌, ℕ, suc, ◌+◌, Bool, true, false, List, [], ◌∷◌, Option, Some, None, inl, inr, refl, sym, subst, ap, ◌∙◌}
-use Rattle.std.specs.Prelude.{Contains, option_map}
+use Rattle.std.proofs.Common.{◌≡◌, ℕ, suc, Bool, true, false, List, [], ◌∷◌, Option, Some, None, refl, sym, ap, ◌∙◌}
 use Rattle.std.specs.List.{AllByRecursion}
 use Rattle.caf_mailbox.proofs.NextLemmas.{all_filter}
 use Rattle.caf_message.specs.Outside.{holds_stop}
-use Rattle.caf_message.specs.declared.envelope.Taken.{Taken}
 use Rattle.caf_actor.specs.Record.{Machine, Kept, IsLegal, AreNotices, heard, holds_notice, cut_in}
 use Rattle.caf_actor.specs.declared.journal.TakenBatch.{TakenBatch}
 

@@ -6,13 +6,12 @@ use Rattle.std.proofs.lemmas.List.{length-take, length-drop}
 use Rattle.caf_index.proofs.ContainsLemmas.{contains-none, contains-cases}
 use Rattle.caf_actor.specs.Answering.{is_asked}
 use Rattle.caf_actor.specs.PlainInput.{PlainInput, Content}
-use Rattle.caf_actor.specs.PlainOutput.{PlainOutput}
 use Rattle.caf_actor.specs.declared.origin.Origin.{Origin}
 use Rattle.caf_kinds.specs.Kinds.{as_kind}
 use Rattle.caf_kinds.specs.Pipeline.{finish_content, to_peer}
 use Rattle.caf_kinds.specs.Reacting.{answers, done}
 use Rattle.caf_kinds.specs.Setups.{setup_at}
-use Rattle.caf_kinds.specs.Source.{Sourced, more_content, tells_all, tells_itself, takers, last_peer, follows, finish_of, next_chunks, chunks_left, stage_with, goes_on, on_start, on_more}
+use Rattle.caf_kinds.specs.Source.{Sourced, more_content, tells_all, tells_itself, takers, follows, finish_of, next_chunks, chunks_left, stage_with, goes_on, on_start, on_more}
 use Rattle.caf_kinds.specs.Who.{Who}
 use Rattle.caf_kinds.specs.declared.contents.Chunk.{Chunk}
 use Rattle.caf_kinds.specs.declared.kind.Kind.{Kind}

@@ -1,5 +1,5 @@
 -- Lines, relays and counters pay for what they tell: each chunk brings what they tell because of it.
-use Rattle.std.proofs.Common.{◌≡◌, ℕ, ◌+◌, ◌≤◌, ◌<◌, Bool, true, false, List, [], ◌∷◌, map, Some, sym, subst, ap, ◌∙◌, arith, refl}
+use Rattle.std.proofs.Common.{◌≡◌, ℕ, true, false, List, [], ◌∷◌, map, Some, sym, subst, ap, ◌∙◌, arith, refl}
 use Rattle.std.specs.Prelude.{◌%◌, Contains, length}
 use Rattle.caf_types.specs.declared.notice.Priority.TheVariants as priority
 use Rattle.caf_index.proofs.ContainsLemmas.{contains-none, from-map}

@@ -1,5 +1,5 @@
 -- Envelopes weighed by where they go: what places took weighs no more than what was sent to them.
-use Rattle.std.proofs.Common.{◌≡◌, ℕ, zero, suc, ◌+◌, ◌-◌, ◌≤◌, ◌<◌, ◌==◌, ◌&&◌, Bool, true, false, List, [], ◌∷◌, ◌++◌, length, map, cond, inl, inr, refl, sym, subst, ap, ◌∙◌, arith}
+use Rattle.std.proofs.Common.{◌≡◌, ℕ, suc, ◌+◌, ◌≤◌, ◌<◌, ◌==◌, ◌&&◌, Bool, true, false, List, [], ◌∷◌, ◌++◌, length, map, cond, inl, inr, refl, sym, subst, ap, ◌∙◌, arith}
 use Rattle.std.specs.Prelude.{◌⊎◌}
 use Rattle.std.specs.List.{AllByRecursion}
 use Rattle.std.proofs.lemmas.Bool.{cases_lt}
@@ -7,9 +7,9 @@ use Rattle.std.proofs.lemmas.Bool.Decides.{nat_tests}
 use Rattle.caf_message.specs.declared.envelope.Taken.{Taken}
 use Rattle.caf_message.specs.Envelope.{outside, start_envelope}
 use Rattle.caf_actor.specs.PlainPost.{PlainPost}
-use Rattle.caf_actor.specs.Record.{Machine, Kept, IsLegal, IsPrefix, from_place, to_place, joined, heard, told, when, posted, sent, taken_by, sent_by, outside_sends, ends, handled_at, handled, sum_below}
+use Rattle.caf_actor.specs.Record.{Machine, Kept, IsLegal, IsPrefix, to_place, joined, heard, told, when, posted, sent, taken_by, sent_by, outside_sends, handled_at, handled, sum_below}
 use Rattle.caf_actor.specs.declared.journal.TakenBatch.{TakenBatch}
-use Rattle.caf_carriers.proofs.CountLemmas.{sum_same, sum_less, sum_plus, sum_none, sum_one, self_same, same_number}
+use Rattle.caf_carriers.proofs.CountLemmas.{sum_same, sum_less, sum_plus, sum_none, same_number}
 use Rattle.caf_carriers.proofs.TotalLemmas.{eq_comm}
 use Rattle.caf_steady.specs.Outline.{Bare, bare}
 use Rattle.caf_pipeline.proofs.HeavyLemmas.{heavy, heavy_append, heavy_next, heavy_prefix, sum_most, sum_swap, by_sender, all_senders, are_from}
