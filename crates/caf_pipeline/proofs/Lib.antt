@@ -39,3 +39,4 @@ pub mod SourcePayLemmas
 pub mod ConductorPayLemmas
 pub mod QuietLemmas
 pub mod NumberLemmas
+pub mod StampLemmas

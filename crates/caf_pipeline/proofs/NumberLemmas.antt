@@ -7,11 +7,11 @@ use Rattle.caf_mailbox.specs.Caches.{CachedLists}
 use Rattle.caf_record.proofs.ListLemmas.{all_left, all_right}
 use Rattle.caf_response.specs.Promised.{Promised}
 use Rattle.caf_actor.specs.PlainInput.{PlainInput}
-use Rattle.caf_actor.specs.Record.{Kept, Machine, machine_of, joined, posted, handled}
+use Rattle.caf_actor.specs.Record.{Kept, Machine, machine_of, joined, posted, sum_below, handled_at, handled}
 use Rattle.caf_actor.specs.Run.{Turn}
 use Rattle.caf_actor.specs.declared.journal.TakenBatch.{TakenBatch}
 use Rattle.caf_actor.specs.declared.snapshot.Snapshot.{Snapshot}
-use Rattle.caf_carriers.proofs.CountLemmas.{sum_plus, self_same}
+use Rattle.caf_carriers.proofs.CountLemmas.{sum_less, sum_plus, self_same}
 use Rattle.caf_kinds.specs.FileChunks.{all_chunks}
 use Rattle.caf_kinds.specs.Kinds.{kind_rules}
 use Rattle.caf_kinds.specs.Planning.{conductor_of}
@@ -46,7 +46,7 @@ use Rattle.caf_pipeline.proofs.PriceLemmas.{price, PaysFor, all_have}
 use Rattle.caf_pipeline.proofs.SourcePayLemmas.{Funds, source_pays}
 use Rattle.caf_pipeline.proofs.TellerPayLemmas.{Measures, lines_pays, Relays, relay_pays, Counts, counter_pays}
 use Rattle.caf_pipeline.proofs.HeavyLemmas.{heavy, sum_most}
-use Rattle.caf_pipeline.proofs.WeightLemmas.{weigh, handled_most}
+use Rattle.caf_pipeline.proofs.WeightLemmas.{weigh, taken_most}
 
 turns_bring : (may : PlainInput → Bool) (bs : List TakenBatch) → AllByRecursion (Brings may) (joined bs) → AllByRecursion (Brings may) (all_in_turn bs)
 turns_bring may [] all = tt
@@ -182,13 +182,20 @@ module _ (setups : List Setup) (script : List Step) (files : List (List ℕ)) (t
 
   -- ---- all places
 
-  few_handled : handled m k < enough setups script files
-  few_handled =
-      let most = handled_most (price setups) m ticks k is.legal is.silent worth no_caches paid in
+  pub few_taken : sum_below k.places (λ q. length (joined (k.journal q))) ≤ 8 * length cs + 2 * length script + 4
+  few_taken =
+      let most = taken_most (price setups) m ticks k is.legal is.silent worth paid in
       let parts = sum_plus k.places (λ q. cond (q == p.source) (8 * length cs + 3) 0) (λ q. cond (q == 0) (2 * length script) 0) in
       let chunks = sum_most k.places p.source (8 * length cs + 3) in
       let steps = sum_most k.places 0 (2 * length script) in
       omega (arith, most, parts, chunks, steps)
+
+  -- what was cached at first is nothing, so no more left the lists than were taken
+  few_handled : handled m k < enough setups script files
+  few_handled =
+      let few = sum_less k.places (handled_at m k) (λ q. length (joined (k.journal q))) (λ q low. let none = no_caches q low in omega (arith, none)) in
+      let most = few_taken in
+      omega (arith, few, most)
 
 pub runs_are_short : UndisturbedRunsAreShort
 runs_are_short setups script files ticks k ts is = few_handled setups script files ticks k ts is

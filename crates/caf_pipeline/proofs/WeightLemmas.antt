@@ -143,22 +143,17 @@ module _ (v : ℕ → ℕ) where
             start_only true q = let here : v b ≡ v 0 = ap v (same_number b 0 q) in rw q (ap suc here)
             start_only false q = rw q refl
 
-    -- ---- how many were handled
+    -- ---- how many were taken
 
-    few_handled : ((p : ℕ) → p < k.places → m.cached_in (k.start p) ≡ 0) → handled m k ≤ sum_below k.places (λ p. length (took p))
-    few_handled fresh = sum_less k.places (handled_at m k) (λ p. length (took p)) (λ p less. let none = fresh p less in omega (arith, none))
-
-    -- where each place sends no more than what it has, and what it took brings, all together handle no more than what
-    -- they have, and Start
-    pub handled_most : (has : ℕ → ℕ) → ((p : ℕ) → p < k.places → m.cached_in (k.start p) ≡ 0)
-        → ((p : ℕ) → p < k.places → weigh (map bare (posted m (k.start p) (k.journal p))) ≤ has p + heavy (v p) (took p))
-        → handled m k ≤ sum_below k.places has + suc (v 0)
-    handled_most has fresh pays =
+    -- where each place sends no more than what it has, and what it took brings, all together took no more than what they
+    -- have, and Start
+    pub taken_most : (has : ℕ → ℕ) → ((p : ℕ) → p < k.places → weigh (map bare (posted m (k.start p) (k.journal p))) ≤ has p + heavy (v p) (took p))
+        → sum_below k.places (λ p. length (took p)) ≤ sum_below k.places has + suc (v 0)
+    taken_most has pays =
         let n = k.places in
-        let few = few_handled fresh in
         let all = all_taken_weigh in
         let each = sum_same n (λ b. heavy (suc (v b)) (took b)) (λ b. length (took b) + heavy (v b) (took b)) (λ b less. heavy_next (v b) (took b)) in
         let parts = sum_plus n (λ b. length (took b)) (λ b. heavy (v b) (took b)) in
         let paid = sum_less n (λ p. weigh (map bare (posted m (k.start p) (k.journal p)))) (λ p. has p + heavy (v p) (took p)) pays in
         let halves = sum_plus n has (λ p. heavy (v p) (took p)) in
-        omega (arith, few, all, each, parts, paid, halves)
+        omega (arith, all, each, parts, paid, halves)
