@@ -40,3 +40,4 @@ pub mod ConductorPayLemmas
 pub mod QuietLemmas
 pub mod NumberLemmas
 pub mod StampLemmas
+pub mod LowLemmas

@@ -78,6 +78,14 @@ module _ (setups : List Setup) (script : List Step) (files : List (List ℕ)) (t
       let stand = stands setups p script files is.undisturbed.actors j s.0 s.1 in
       ap (λ (x : Snapshot Kind). x.holds) (is.opens.start (suc j) (actor_at setups script (1 + j) s.0 stand.own) stand.there)
 
+  pub no_stamps : (q : ℕ) → q < k.places → m.stamp_of (k.start q) ≡ 0
+  no_stamps zero low = ap (λ (x : Snapshot Kind). x.stamp) (is.opens.start 0 (conductor_at_0 setups script) refl)
+  no_stamps (suc j) low =
+      let places = is.opens.places in
+      let s = got_at setups j (omega (arith, low, places)) in
+      let stand = stands setups p script files is.undisturbed.actors j s.0 s.1 in
+      ap (λ (x : Snapshot Kind). x.stamp) (is.opens.start (suc j) (actor_at setups script (1 + j) s.0 stand.own) stand.there)
+
   no_caches : (q : ℕ) → q < k.places → m.cached_in (k.start q) ≡ 0
   no_caches q low = ap (λ (c : CachedLists). length c.urgent + length c.normal) (steady setups script files ticks k ts is q low).empty
 

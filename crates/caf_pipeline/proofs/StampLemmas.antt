@@ -2,6 +2,7 @@
 use Rattle.std.proofs.Common.{◌≡◌, ◌≢◌, ℕ, zero, suc, ◌+◌, ◌≤◌, ◌<◌, ◌==◌, ◌&&◌, max, Bool, true, false, List, [], ◌∷◌, ◌++◌, length, drop, cond, refl, sym, subst, ap, ◌∙◌, arith}
 use Rattle.std.specs.Prelude.{if◌then◌else◌}
 use Rattle.std.specs.List.{AllByRecursion}
+use Rattle.std.proofs.lemmas.List.{length-append}
 use Rattle.caf_mailbox.proofs.NextLemmas.{all_append}
 use Rattle.caf_message.specs.Envelope.{outside, start_envelope}
 use Rattle.caf_message.specs.declared.envelope.Taken.{Taken}
@@ -12,7 +13,7 @@ use Rattle.caf_actor.specs.Record.{Machine, machine_of, from_place, to_place, jo
 use Rattle.caf_actor.specs.Rules.{Rules}
 use Rattle.caf_actor.specs.Run.{State, Step, Take, Speak, Turn, MayTake, IsRun, run, opening_state, take_batch, send_notice, next_notice, without}
 use Rattle.caf_actor.specs.declared.snapshot.Snapshot.{Snapshot}
-use Rattle.caf_carriers.proofs.CountLemmas.{sum_less, sum_plus, sum_none, sum_one}
+use Rattle.caf_carriers.proofs.CountLemmas.{sum_less, sum_plus, sum_one, same_number}
 use Rattle.caf_record.proofs.BatchLemmas.{all_to}
 use Rattle.caf_record.proofs.ListLemmas.{all_left, all_drop, all_map}
 use Rattle.caf_record.proofs.StampedLemmas.{has_stamps}
@@ -48,7 +49,7 @@ module _ {S : Type 0} (rules : Rules S) (places : ℕ) where
     pub waiting : (a b : ℕ) → AreAtMost n (s.waiting a b)
 
   take_low : (n : ℕ) (s : State (Snapshot S)) (t : Turn) → MayTake m s t → AreLow n s → AreLow (n + 1) (take_batch m s t)
-  take_low n s t may low = record { same = low.same; at = λ p less. at_place p (p == t.place) less; waiting = λ a b. all_append (λ (e : Taken). e.stamp ≤ n + 1) _ _ (left a b (b == t.place)) (news a (a == t.place) b) }
+  take_low n s t may low = record { same = low.same; at = λ p less. at_place p (p == t.place) less; waiting = λ a b. all_append (λ (e : Taken). e.stamp ≤ n + 1) _ _ (left a b (b == t.place)) (news a b (a == t.place) refl) }
     where
       here : t.place < places
       here = subst (λ (k : ℕ). t.place < k) low.same may.place
@@ -72,8 +73,13 @@ module _ {S : Type 0} (rules : Rules S) (places : ℕ) where
       left a b true = more_low n (n + 1) _ (omega arith) (all_drop (λ (e : Taken). e.stamp ≤ n) (length (from_place a t.batch.taken)) (s.waiting a b) (low.waiting a b))
       left a b false = more_low n (n + 1) (s.waiting a b) (omega arith) (low.waiting a b)
 
-      news : (a : ℕ) (c : Bool) (b : ℕ) → AreAtMost (n + 1) (when c (to_place b (m.play (s.snapshot a) t.batch.taken).1))
-      news a c b = ?
+      news : (a b : ℕ) (c : Bool) → (a == t.place) ≡ c → AreAtMost (n + 1) (when c (to_place b (m.play (s.snapshot a) t.batch.taken).1))
+      news a b true q =
+          let due = due_low a (subst (λ (x : ℕ). x < places) (sym (same_number a t.place q)) here) in
+          let posts = (m.play (s.snapshot a) t.batch.taken).1 in
+          all_to (λ (e : Taken). e.stamp ≤ n + 1) b posts
+          (all_map (λ (x : PlainPost). x.envelope.stamp ≡ m.due (s.snapshot a) t.batch.taken) (λ (x : PlainPost). x.envelope.stamp ≤ n + 1) (λ x is. omega (arith, due, is)) posts ((has_stamps rules).posts (s.snapshot a) t.batch.taken))
+      news a b false q = tt
 
   speak_low : (ticks n : ℕ) (s : State (Snapshot S)) → AreLow n s → AreLow n (send_notice m ticks s)
   speak_low ticks n s low = record { same = low.same; at = low.at; waiting = λ a b. all_append (λ (e : Taken). e.stamp ≤ n) (s.waiting a b) _ (low.waiting a b) (notice ((outside == a) && (0 == b))) }
@@ -87,4 +93,75 @@ module _ {S : Type 0} (rules : Rules S) (places : ℕ) where
 
   pub run_low : (ticks n : ℕ) (s : State (Snapshot S)) (ts : List Turn) → IsRun m ticks s (steps_of ts) → AreLow n s → AreLow (n + length ts) (run m ticks s (steps_of ts))
   run_low ticks n s [] is low = record { same = low.same; at = λ p less. (let old = low.at p less in omega (arith, old)); waiting = λ a b. more_low n (n + 0) (s.waiting a b) (omega arith) (low.waiting a b) }
-  run_low ticks n s (t ∷ ts) is low = ?
+  run_low ticks n s (t ∷ ts) is low = go ((0 == t.place) && holds_notice t.batch) refl (λ x h at_first. run_low ticks (n + 1) x ts h at_first)
+    where
+      Goes : Type 0
+      Goes = (x : State (Snapshot S)) → IsRun m ticks x (steps_of ts) → AreLow (n + 1) x → AreLow (n + 1 + length ts) (run m ticks x (steps_of ts))
+
+      takes : Goes → (x : State (Snapshot S)) → IsRun m ticks x (Take t ∷ steps_of ts) → AreLow n x → AreLow (n + length (t ∷ ts)) (run m ticks x (Take t ∷ steps_of ts))
+      takes later x h at_first =
+          let same : n + 1 + length ts ≡ n + length (t ∷ ts) = omega arith in
+          subst (λ (k : ℕ). AreLow k (run m ticks x (Take t ∷ steps_of ts))) same (later (take_batch m x t) h.1 (take_low n x t h.0 at_first))
+
+      go : (c : Bool) → ((0 == t.place) && holds_notice t.batch) ≡ c → Goes → AreLow (n + length (t ∷ ts)) (run m ticks s (steps_of (t ∷ ts)))
+      go true q later =
+          let steps : steps_of (t ∷ ts) ≡ Speak ∷ Take t ∷ steps_of ts = rw q refl in
+          let h = subst (IsRun m ticks s) steps is in
+          subst (λ (ss : List Step). AreLow (n + length (t ∷ ts)) (run m ticks s ss)) (sym steps) (takes later (send_notice m ticks s) h.1 (speak_low ticks n s low))
+      go false q later =
+          let steps : steps_of (t ∷ ts) ≡ Take t ∷ steps_of ts = rw q refl in
+          let h = subst (IsRun m ticks s) steps is in
+          subst (λ (ss : List Step). AreLow (n + length (t ∷ ts)) (run m ticks s ss)) (sym steps) (takes later s h low)
+
+  pub first_low : (start : ℕ → Snapshot S) → ((p : ℕ) → p < places → m.stamp_of (start p) ≡ 0) → AreLow 0 (opening_state places start)
+  first_low start fresh = record { same = refl; at = λ p less. (let none = fresh p less in omega (arith, none)); waiting = λ a b. only ((outside == a) && (0 == b)) }
+    where
+      only : (c : Bool) → AreAtMost 0 (when c (start_envelope ∷ []))
+      only true = (omega arith, tt)
+      only false = tt
+
+-- ---- turns are no more than envelopes
+
+-- a turn of a place, with an envelope
+pub record IsFilled (places : ℕ) (t : Turn) : Type 0 where
+  pub place : t.place < places
+  pub filled : t.batch.taken ≢ []
+
+pub all_filled : {S : Type 0} (x : Machine S) (places ticks : ℕ) (s : State S) (ts : List Turn) → s.places ≡ places → IsRun x ticks s (steps_of ts) → AllByRecursion (IsFilled places) ts
+all_filled x places ticks s [] same is = tt
+all_filled {S} x places ticks s (t ∷ ts) same is = go ((0 == t.place) && holds_notice t.batch) refl (λ y e h. all_filled x places ticks y ts e h)
+  where
+    Goes : Type 0
+    Goes = (y : State S) → y.places ≡ places → IsRun x ticks y (steps_of ts) → AllByRecursion (IsFilled places) ts
+
+    takes : Goes → (y : State S) → y.places ≡ places → IsRun x ticks y (Take t ∷ steps_of ts) → AllByRecursion (IsFilled places) (t ∷ ts)
+    takes later y same h = (record { place = subst (λ (k : ℕ). t.place < k) same h.0.place; filled = h.0.filled }, later (take_batch x y t) same h.1)
+
+    go : (c : Bool) → ((0 == t.place) && holds_notice t.batch) ≡ c → Goes → AllByRecursion (IsFilled places) (t ∷ ts)
+    go true q later =
+        let steps : steps_of (t ∷ ts) ≡ Speak ∷ Take t ∷ steps_of ts = rw q refl in
+        let h = subst (IsRun x ticks s) steps is in
+        takes later (send_notice x ticks s) same h.1
+    go false q later =
+        let steps : steps_of (t ∷ ts) ≡ Take t ∷ steps_of ts = rw q refl in
+        takes later s same (subst (IsRun x ticks s) steps is)
+
+pub turns_few : (places : ℕ) (ts : List Turn) → AllByRecursion (IsFilled places) ts → length ts ≤ sum_below places (λ p. length (joined (batches_in p ts)))
+turns_few places [] all = omega arith
+turns_few places (t ∷ ts) all =
+    let rest = turns_few places ts all.1 in
+    let one = sum_one places t.place 1 all.0.place in
+    let parts = sum_plus places (λ p. cond (p == t.place) 1 0) (λ p. length (joined (batches_in p ts))) in
+    let each = sum_less places (λ p. cond (p == t.place) 1 0 + length (joined (batches_in p ts))) (λ p. length (joined (batches_in p (t ∷ ts)))) (λ p less. at p (p == t.place) refl) in
+    omega (arith, rest, one, parts, each)
+  where
+    some : (es : List Taken) → es ≢ [] → 1 ≤ length es
+    some [] other = absurd (other refl)
+    some (e ∷ es) other = omega arith
+
+    at : (p : ℕ) (c : Bool) → (p == t.place) ≡ c → cond (p == t.place) 1 0 + length (joined (batches_in p ts)) ≤ length (joined (batches_in p (t ∷ ts)))
+    at p true q =
+        let first = some t.batch.taken all.0.filled in
+        let both = length-append t.batch.taken (joined (batches_in p ts)) in
+        rw q (omega (arith, first, both))
+    at p false q = rw q (omega arith)

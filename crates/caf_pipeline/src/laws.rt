@@ -8,6 +8,7 @@ ghost use Rattle.caf_pipeline.specs.Numbers.{EnoughIsNeverSpent, UndisturbedRuns
 ghost use Rattle.caf_pipeline.specs.Parts.{PartsHandOn};
 ghost use Rattle.caf_pipeline.specs.Postings.{PostingsFitAMessage};
 ghost use Rattle.caf_pipeline.specs.Sent.{UndisturbedScriptIsSent};
+ghost use Rattle.caf_pipeline.specs.Stamps.{UndisturbedStampsAreLow};
 ghost use Rattle.caf_pipeline.specs.Undisturbed.{UndisturbedOpens};
 
 /// Undisturbed setups and their script can be opened with any files whose lines are short.
@@ -82,4 +83,9 @@ pub fn undisturbed_runs_are_short()
 /// So a budget of that many is never spent before Stop.
 pub fn enough_is_never_spent()
     ensures { EnoughIsNeverSpent }
+{}
+
+/// In such a record no stamp has come to that number: of no place, and of nothing that is untaken.
+pub fn undisturbed_stamps_are_low()
+    ensures { UndisturbedStampsAreLow }
 {}
