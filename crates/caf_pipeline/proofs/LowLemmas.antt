@@ -1,23 +1,19 @@
 -- The stamps of an undisturbed run before Stop are fewer than the envelopes that were taken, so they are low.
-use Rattle.std.proofs.Common.{◌≡◌, ℕ, zero, suc, ◌+◌, ◌≤◌, ◌<◌, List, length, refl, sym, subst, ap, ◌∙◌, arith}
-use Rattle.std.specs.List.{AllByRecursion}
+use Rattle.std.proofs.Common.{ℕ, ◌+◌, ◌≤◌, ◌<◌, List, length, refl, subst, ap, arith}
 use Rattle.caf_message.specs.declared.envelope.Taken.{Taken}
 use Rattle.caf_record.proofs.ListLemmas.{all_map}
 use Rattle.caf_record.proofs.MergeLemmas.{merge_runs}
 use Rattle.caf_record.proofs.StampedLemmas.{has_stamps}
-use Rattle.caf_actor.specs.Merge.{batches_in, steps_of}
-use Rattle.caf_actor.specs.Record.{Kept, Machine, machine_of, ends, joined, untaken}
-use Rattle.caf_actor.specs.Run.{State, Turn, run, opening_state}
+use Rattle.caf_actor.specs.Merge.{batches_in}
+use Rattle.caf_actor.specs.Record.{Machine, machine_of, ends, joined, untaken}
+use Rattle.caf_actor.specs.Run.{opening_state}
 use Rattle.caf_actor.specs.declared.journal.TakenBatch.{TakenBatch}
 use Rattle.caf_actor.specs.declared.snapshot.Snapshot.{Snapshot}
 use Rattle.caf_carriers.proofs.CountLemmas.{sum_same}
 use Rattle.caf_kinds.specs.Kinds.{kind_rules}
 use Rattle.caf_kinds.specs.declared.kind.Kind.{Kind}
-use Rattle.caf_kinds.specs.declared.script.Step.{Step}
-use Rattle.caf_kinds.specs.declared.setup.Setup.{Setup}
-use Rattle.caf_pipeline.specs.Flow.{IsUndisturbedRecord}
 use Rattle.caf_pipeline.specs.Numbers.{enough}
-use Rattle.caf_pipeline.specs.Stamps.{HasLowStamps, UndisturbedStampsAreLow}
+use Rattle.caf_pipeline.specs.Stamps.{UndisturbedStampsAreLow}
 use Rattle.caf_pipeline.proofs.NumberLemmas.{few_taken, no_stamps}
 use Rattle.caf_pipeline.proofs.StampLemmas.{latest_low, run_low, first_low, all_filled, turns_few, AreAtMost}
 

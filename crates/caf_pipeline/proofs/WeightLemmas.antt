@@ -7,7 +7,7 @@ use Rattle.std.proofs.lemmas.Bool.Decides.{nat_tests}
 use Rattle.caf_message.specs.declared.envelope.Taken.{Taken}
 use Rattle.caf_message.specs.Envelope.{outside, start_envelope}
 use Rattle.caf_actor.specs.PlainPost.{PlainPost}
-use Rattle.caf_actor.specs.Record.{Machine, Kept, IsLegal, IsPrefix, to_place, joined, heard, told, when, posted, sent, taken_by, sent_by, outside_sends, handled_at, handled, sum_below}
+use Rattle.caf_actor.specs.Record.{Machine, Kept, IsLegal, IsPrefix, to_place, joined, heard, told, when, posted, sent, taken_by, sent_by, outside_sends, sum_below}
 use Rattle.caf_actor.specs.declared.journal.TakenBatch.{TakenBatch}
 use Rattle.caf_carriers.proofs.CountLemmas.{sum_same, sum_less, sum_plus, sum_none, same_number}
 use Rattle.caf_carriers.proofs.TotalLemmas.{eq_comm}
