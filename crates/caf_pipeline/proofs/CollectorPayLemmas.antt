@@ -1,4 +1,4 @@
--- The collector pays for its answers: each envelope that it takes brings one, which a question that is kept leaves for later.
+-- The collector pays for its answers: each envelope that it takes brings one, which may be left for later.
 use Rattle.std.proofs.Common.{◌≡◌, ℕ, ◌≤◌, Bool, true, false, List, [], ◌∷◌, ◌++◌, length, map, Some, inl, inr, refl, sym, subst, ap, ◌∙◌, arith}
 use Rattle.std.specs.Prelude.{not, Contains, if◌then◌else◌}
 use Rattle.std.specs.List.{filter}

@@ -1,6 +1,6 @@
 -- How many envelopes an undisturbed run handles: no more than its places had to begin with, which is what files and
 -- script are worth.
-use Rattle.std.proofs.Common.{◌≡◌, ℕ, zero, suc, ◌+◌, ◌*◌, ◌≤◌, ◌<◌, ◌==◌, Bool, true, List, [], ◌∷◌, length, map, cond, Some, refl, sym, ap, ◌∙◌, arith}
+use Rattle.std.proofs.Common.{◌≡◌, ℕ, zero, suc, ◌+◌, ◌*◌, ◌≤◌, ◌<◌, ◌==◌, Bool, true, List, [], ◌∷◌, length, map, cond, Some, refl, sym, subst, ap, ◌∙◌, arith}
 use Rattle.std.specs.List.{AllByRecursion}
 use Rattle.caf_mailbox.proofs.NextLemmas.{all_append}
 use Rattle.caf_mailbox.specs.Caches.{CachedLists}
@@ -70,21 +70,20 @@ module _ (setups : List Setup) (script : List Step) (files : List (List ℕ)) (t
   abbrev worth : ℕ → ℕ
   worth place = cond (place == p.source) (8 * length cs + 3) 0 + cond (place == 0) (2 * length script) 0
 
-  no_holds : (q : ℕ) → q < k.places → (k.start q).holds ≡ []
-  no_holds zero low = ap (λ (x : Snapshot Kind). x.holds) (is.opens.start 0 (conductor_at_0 setups script) refl)
-  no_holds (suc j) low =
+  -- an actor that holds nothing, and has the stamp 0
+  abbrev IsNew : Snapshot Kind → Type 0
+  IsNew x = (x.holds ≡ []) × (x.stamp ≡ 0)
+
+  is_new : (q : ℕ) → q < k.places → IsNew (k.start q)
+  is_new zero low = subst IsNew (sym (is.opens.start 0 (conductor_at_0 setups script) refl)) (refl, refl)
+  is_new (suc j) low =
       let places = is.opens.places in
       let s = got_at setups j (omega (arith, low, places)) in
       let stand = stands setups p script files is.undisturbed.actors j s.0 s.1 in
-      ap (λ (x : Snapshot Kind). x.holds) (is.opens.start (suc j) (actor_at setups script (1 + j) s.0 stand.own) stand.there)
+      subst IsNew (sym (is.opens.start (suc j) (actor_at setups script (1 + j) s.0 stand.own) stand.there)) (refl, refl)
 
   pub no_stamps : (q : ℕ) → q < k.places → m.stamp_of (k.start q) ≡ 0
-  no_stamps zero low = ap (λ (x : Snapshot Kind). x.stamp) (is.opens.start 0 (conductor_at_0 setups script) refl)
-  no_stamps (suc j) low =
-      let places = is.opens.places in
-      let s = got_at setups j (omega (arith, low, places)) in
-      let stand = stands setups p script files is.undisturbed.actors j s.0 s.1 in
-      ap (λ (x : Snapshot Kind). x.stamp) (is.opens.start (suc j) (actor_at setups script (1 + j) s.0 stand.own) stand.there)
+  no_stamps q low = (is_new q low).1
 
   no_caches : (q : ℕ) → q < k.places → m.cached_in (k.start q) ≡ 0
   no_caches q low = ap (λ (c : CachedLists). length c.urgent + length c.normal) (steady setups script files ticks k ts is q low).empty
@@ -99,7 +98,7 @@ module _ (setups : List Setup) (script : List Step) (files : List (List ℕ)) (t
 
   begins_with : (Inv : ℕ → Kind → Type 0) (q n : ℕ) → q < k.places → Inv n (k.start q).behavior → HasAt Inv q n (began q)
   begins_with Inv q n low inv =
-      let none = ap (λ (hs : List Promised). length hs) (no_holds q low) in
+      let none = ap (λ (hs : List Promised). length hs) (is_new q low).0 in
       record { left = n; inv = inv; within = omega (arith, none) }
 
   read_at : (q : ℕ) → q < k.places → HasRead kind_rules (comes setups cs q) (k.start q) (k.journal q)

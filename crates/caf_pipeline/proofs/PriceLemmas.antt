@@ -28,8 +28,8 @@ use Rattle.caf_pipeline.proofs.HeavyLemmas.{heavy}
 
 -- ---- prices
 
--- a chunk becomes an extent, which is one envelope to the collector; or one to a counter, and its postings; and the
--- collector answers at most once for each envelope, then or later
+-- the collector answers at most once for each envelope, then or later; lines and counters send it one envelope for each
+-- chunk; and the relay sends a counter one
 abbrev pub price_of : KindName → ℕ
 price_of name.Lines = 2
 price_of name.Relay = 3

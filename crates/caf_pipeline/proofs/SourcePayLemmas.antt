@@ -1,5 +1,5 @@
--- The source pays for what it tells: it has 8 for each chunk that is left, for the seven envelopes because of it, and
--- one more for each time that it tells itself to go on.
+-- The source pays for what it tells: for each chunk that is left it has 8, of which it gives 3 to lines and 4 to the
+-- relay, and keeps one for telling itself to go on.
 use Rattle.std.proofs.Common.{◌≡◌, ℕ, ◌+◌, ◌-◌, ◌*◌, ◌≤◌, ◌==◌, min, Bool, true, false, List, [], ◌∷◌, ◌++◌, length, map, take, drop, Some, inl, inr, refl, sym, subst, ap, ◌∙◌, arith}
 use Rattle.std.specs.Prelude.{slice_get, Contains}
 use Rattle.std.proofs.lemmas.List.{length-take, length-drop}

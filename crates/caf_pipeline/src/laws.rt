@@ -74,13 +74,13 @@ pub fn undisturbed_files_are_indexed()
     ensures { UndisturbedFilesAreIndexed }
 {}
 
-/// In a legal record over the opening of an undisturbed run, in which no tick and no Stop was taken, fewer envelopes were
-/// handled than 8 for each chunk of the files, 16 for each place and 2 for each step, whether it is at rest or not.
+/// In a legal record over the opening of an undisturbed run, in which no tick and no Stop was taken, fewer envelopes
+/// were handled than 8 for each chunk of the files, 16 for each place and 2 for each step, be it at rest or not.
 pub fn undisturbed_runs_are_short()
     ensures { UndisturbedRunsAreShort }
 {}
 
-/// So a budget of that many is never spent before Stop.
+/// So a budget of that many is never spent, where no tick was to come and Stop wasn't taken.
 pub fn enough_is_never_spent()
     ensures { EnoughIsNeverSpent }
 {}
