@@ -28,3 +28,16 @@ pub mod GoingLemmas
 pub mod RestLemmas
 pub mod BegunLemmas
 pub mod UndisturbedLemmas
+pub mod HeavyLemmas
+pub mod WeightLemmas
+pub mod CostLemmas
+pub mod PayLemmas
+pub mod PriceLemmas
+pub mod TellerPayLemmas
+pub mod CollectorPayLemmas
+pub mod SourcePayLemmas
+pub mod ConductorPayLemmas
+pub mod QuietLemmas
+pub mod NumberLemmas
+pub mod StampLemmas
+pub mod LowLemmas

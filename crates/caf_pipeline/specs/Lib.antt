@@ -6,3 +6,5 @@ pub mod Sent
 pub mod Contents
 pub mod Flow
 pub mod Indexed
+pub mod Numbers
+pub mod Stamps

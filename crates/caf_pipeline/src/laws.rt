@@ -4,9 +4,11 @@ ghost use Rattle.caf_pipeline.specs.Contents.{PartsTakeTheirContents};
 ghost use Rattle.caf_pipeline.specs.Flow.{RelayedChunksAreCollected};
 ghost use Rattle.caf_pipeline.specs.Indexed.{RelayedFilesAreIndexed, StartedFilesAreIndexed};
 ghost use Rattle.caf_pipeline.specs.Indexed.{ToldFilesAreIndexed, UndisturbedFilesAreIndexed};
+ghost use Rattle.caf_pipeline.specs.Numbers.{EnoughIsNeverSpent, UndisturbedRunsAreShort};
 ghost use Rattle.caf_pipeline.specs.Parts.{PartsHandOn};
 ghost use Rattle.caf_pipeline.specs.Postings.{PostingsFitAMessage};
 ghost use Rattle.caf_pipeline.specs.Sent.{UndisturbedScriptIsSent};
+ghost use Rattle.caf_pipeline.specs.Stamps.{UndisturbedStampsAreLow};
 ghost use Rattle.caf_pipeline.specs.Undisturbed.{UndisturbedOpens};
 
 /// Undisturbed setups and their script can be opened with any files whose lines are short.
@@ -70,4 +72,20 @@ pub fn started_files_are_indexed()
 /// collector's index is the plain index of the files, whatever the order in which anything was taken.
 pub fn undisturbed_files_are_indexed()
     ensures { UndisturbedFilesAreIndexed }
+{}
+
+/// In a legal record over the opening of an undisturbed run, in which no tick and no Stop was taken, fewer envelopes
+/// were handled than 8 for each chunk of the files, 16 for each place and 2 for each step, be it at rest or not.
+pub fn undisturbed_runs_are_short()
+    ensures { UndisturbedRunsAreShort }
+{}
+
+/// So a budget of that many is never spent, where no tick was to come and Stop wasn't taken.
+pub fn enough_is_never_spent()
+    ensures { EnoughIsNeverSpent }
+{}
+
+/// In such a record no stamp has come to that number: of no place, and of nothing that is untaken.
+pub fn undisturbed_stamps_are_low()
+    ensures { UndisturbedStampsAreLow }
 {}

@@ -8,6 +8,8 @@
 //! The contract that the layers above rest on is that of [`laws::undisturbed_files_are_indexed`]: wherever such a
 //! record is at rest, the collector's index is the plain index of the files. The other laws are the steps to it: who
 //! may be sent what, that nothing told is lost, and that the source tells all before all is at rest.
+//! Beside them stand the numbers: before Stop such a run handles few envelopes ([`laws::undisturbed_runs_are_short`]),
+//! and its stamps are low.
 #![tactic(auto)]
 
 pub mod laws;
