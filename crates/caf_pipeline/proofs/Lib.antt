@@ -28,3 +28,12 @@ pub mod GoingLemmas
 pub mod RestLemmas
 pub mod BegunLemmas
 pub mod UndisturbedLemmas
+pub mod LateLemmas
+pub mod WindingLemmas
+pub mod CutLemmas
+pub mod FirstLemmas
+pub mod NameLemmas
+pub mod IdleLemmas
+pub mod ConductedLemmas
+pub mod ScriptLemmas
+pub mod CompleteLemmas

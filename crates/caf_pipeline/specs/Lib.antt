@@ -6,3 +6,4 @@ pub mod Sent
 pub mod Contents
 pub mod Flow
 pub mod Indexed
+pub mod Complete
