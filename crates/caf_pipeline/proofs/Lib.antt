@@ -41,3 +41,12 @@ pub mod QuietLemmas
 pub mod NumberLemmas
 pub mod StampLemmas
 pub mod LowLemmas
+pub mod LateLemmas
+pub mod WindingLemmas
+pub mod CutLemmas
+pub mod FirstLemmas
+pub mod NameLemmas
+pub mod IdleLemmas
+pub mod ConductedLemmas
+pub mod ScriptLemmas
+pub mod CompleteLemmas

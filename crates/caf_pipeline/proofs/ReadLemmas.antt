@@ -59,7 +59,7 @@ module _ {S : Type 0} where
   output_same o (Delay ticks to priority words) = refl
   output_same o (Within ticks to priority mode tag expected words) = refl
 
-  outputs_same : (o : Outlined S) (all : List PlainOutput) → (send_outputs o all).outline.behavior ≡ o.outline.behavior
+  pub outputs_same : (o : Outlined S) (all : List PlainOutput) → (send_outputs o all).outline.behavior ≡ o.outline.behavior
   outputs_same o [] = refl
   outputs_same o (one ∷ more) = outputs_same (send_output o one) more ∙ output_same o one
 

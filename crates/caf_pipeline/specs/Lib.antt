@@ -8,3 +8,4 @@ pub mod Flow
 pub mod Indexed
 pub mod Numbers
 pub mod Stamps
+pub mod Complete

@@ -1,5 +1,6 @@
 //! The laws of undisturbed runs. A law is the contract of a function that does nothing.
 ghost use Rattle.caf_pipeline.specs.BuiltIn.{BuiltInIsUndisturbed};
+ghost use Rattle.caf_pipeline.specs.Complete.{CompleteFilesAreIndexed};
 ghost use Rattle.caf_pipeline.specs.Contents.{PartsTakeTheirContents};
 ghost use Rattle.caf_pipeline.specs.Flow.{RelayedChunksAreCollected};
 ghost use Rattle.caf_pipeline.specs.Indexed.{RelayedFilesAreIndexed, StartedFilesAreIndexed};
@@ -88,4 +89,10 @@ pub fn enough_is_never_spent()
 /// In such a record no stamp has come to that number: of no place, and of nothing that is untaken.
 pub fn undisturbed_stamps_are_low()
     ensures { UndisturbedStampsAreLow }
+{}
+
+/// In a complete record over the opening of an undisturbed run, which ends with Stop, the collector's index is the
+/// plain index of the files: what comes after Stop leaves it as it was.
+pub fn complete_files_are_indexed()
+    ensures { CompleteFilesAreIndexed }
 {}
