@@ -37,3 +37,8 @@ pub mod IdleLemmas
 pub mod ConductedLemmas
 pub mod ScriptLemmas
 pub mod CompleteLemmas
+pub mod CountLemmas
+pub mod WeightLemmas
+pub mod TellingLemmas
+pub mod PassingLemmas
+pub mod SourceWeightLemmas

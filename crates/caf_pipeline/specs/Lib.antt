@@ -7,3 +7,4 @@ pub mod Contents
 pub mod Flow
 pub mod Indexed
 pub mod Complete
+pub mod Answered
