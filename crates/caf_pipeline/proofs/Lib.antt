@@ -42,3 +42,6 @@ pub mod WeightLemmas
 pub mod TellingLemmas
 pub mod PassingLemmas
 pub mod SourceWeightLemmas
+pub mod HoldLemmas
+pub mod TallyLemmas
+pub mod AnsweringLemmas
