@@ -45,3 +45,4 @@ pub mod SourceWeightLemmas
 pub mod HoldLemmas
 pub mod TallyLemmas
 pub mod AnsweringLemmas
+pub mod PlayLemmas
