@@ -19,7 +19,7 @@ use Rattle.caf_steady.specs.Outline.{Outlined, Bare, with_outline, reply, settle
 -- ---- the first that passes
 
 module _ {A : Type 0} where
-  pick_some : (test : A → Bool) (xs : List A) → 0 < count_by test xs → (r : A × List A) × (pick test xs ≡ Some r)
+  pub pick_some : (test : A → Bool) (xs : List A) → 0 < count_by test xs → (r : A × List A) × (pick test xs ≡ Some r)
   pick_some test [] some = absurd (omega (arith, some))
   pick_some test (x ∷ xs) some = go (test x) refl (pick_some test xs)
     where

@@ -46,3 +46,4 @@ pub mod HoldLemmas
 pub mod TallyLemmas
 pub mod AnsweringLemmas
 pub mod PlayLemmas
+pub mod AwaitingLemmas

@@ -83,7 +83,7 @@ error_played o tag sec h = plays_out o (Failed tag sec) (script.resolved h.condu
 pub played_out : IsConducted (λ e. Unit {0}) PlayedOut
 played_out = record {
   on_start = λ o h. plays_out o Start h.conducting.script h refl h.none_left;
-  on_value = λ o e words found h q body f. answer (without_request o found.1) found.0 words (record { conducting = h.conducting; is = h.is; none_left = h.none_left; known = tt });
+  on_value = λ o e words found h q body response f. answer (without_request o found.1) found.0 words (record { conducting = h.conducting; is = h.is; none_left = h.none_left; known = tt });
   on_error = λ o e sec found h q body f. error_played (without_request o found.1) found.0.tag sec (record { conducting = h.conducting; is = h.is; none_left = h.none_left; known = tt });
 }
   where
