@@ -47,3 +47,4 @@ pub mod TallyLemmas
 pub mod AnsweringLemmas
 pub mod PlayLemmas
 pub mod AwaitingLemmas
+pub mod IssueLemmas
