@@ -48,3 +48,4 @@ pub mod AnsweringLemmas
 pub mod PlayLemmas
 pub mod AwaitingLemmas
 pub mod IssueLemmas
+pub mod SenderLemmas

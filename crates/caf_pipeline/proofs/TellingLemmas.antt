@@ -51,20 +51,20 @@ told_append place (Tick to ∷ os) ps all = absurd all.0
 told_append place (Delay ticks to priority words ∷ os) ps all = absurd all.0
 told_append place (Within ticks to priority mode tag expected words ∷ os) ps all = absurd all.0
 
--- none of them asks or answers
-abbrev pub IsToldMid : Mid → Type 0
-IsToldMid mid = (mid.number ≡ 0) × (mid.response ≡ false)
-
-abbrev pub IsToldBare : Bare → Type 0
-IsToldBare b = IsToldMid b.mid
+-- content that neither asks nor answers
+pub record IsToldBare (b : Bare) : Type 0 where
+  pub number : b.mid.number ≡ 0
+  pub response : b.mid.response ≡ false
+  pub words : List ℕ
+  pub body : b.body ≡ «plain».Content words
 
 many_told : (place : ℕ) (priority : Priority) (words : List ℕ) (places : List ℕ) → AllByRecursion IsToldBare (map (bare_told place priority words) places)
 many_told place priority words [] = tt
-many_told place priority words (to ∷ places) = ((refl, refl), many_told place priority words places)
+many_told place priority words (to ∷ places) = (record { number = refl; response = refl; words = words; body = refl }, many_told place priority words places)
 
 pub all_told_bares : (place : ℕ) (os : List PlainOutput) → AllByRecursion IsToldBare (told_bares place os)
 all_told_bares place [] = tt
-all_told_bares place (Tell to priority words ∷ os) = ((refl, refl), all_told_bares place os)
+all_told_bares place (Tell to priority words ∷ os) = (record { number = refl; response = refl; words = words; body = refl }, all_told_bares place os)
 all_told_bares place (TellMany places priority words ∷ os) = all_append IsToldBare (map (bare_told place priority words) places) (told_bares place os) (many_told place priority words places) (all_told_bares place os)
 all_told_bares place (Request to priority mode tag expected words ∷ os) = all_told_bares place os
 all_told_bares place (Exit to why ∷ os) = all_told_bares place os
