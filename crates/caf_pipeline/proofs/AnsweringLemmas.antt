@@ -140,7 +140,7 @@ module _ (setups : List Setup) (cs : List Chunk) (chunks : AreChunks cs) (few : 
     pub keeps : (m : ℕ) → IsKept m o → IsKept m end
     pub asks : is_asked (origin_of e) ≡ true → IsKept e.mid.number end
 
-  goes : (b : Kind) (i : PlainInput) → Collects b → comes setups cs place i ≡ true → Goes setups cs place Collects b i
+  pub goes : (b : Kind) (i : PlainInput) → Collects b → comes setups cs place i ≡ true → Goes setups cs place Collects b i
   goes b i inv e = collector_goes setups cs chunks place s kind_is b i inv (sym (ap (λ (o : Option Setup). comes_as cs place o i) there) ∙ e)
 
   collects : (o : Outlined Kind) (es : List Taken) → Collecting o es → Collects o.outline.behavior
@@ -148,7 +148,7 @@ module _ (setups : List Setup) (cs : List Chunk) (chunks : AreChunks cs) (few : 
 
   -- ---- what it is told
 
-  told_answers : (o : Outlined Kind) (og : Origin) (words : List ℕ) (c after : Collector) → o.outline.behavior ≡ kind.Collector c → is_asked og ≡ false → reacted (kind.Collector c) (Content og words) ≡ as_kind kind.Collector (delivers after)
+  pub told_answers : (o : Outlined Kind) (og : Origin) (words : List ℕ) (c after : Collector) → o.outline.behavior ≡ kind.Collector c → is_asked og ≡ false → reacted (kind.Collector c) (Content og words) ≡ as_kind kind.Collector (delivers after)
       → comes setups cs place (Content og words) ≡ true → Collects o.outline.behavior
       → content kind_rules o og words ≡ send_outputs (with_outline o (record o.outline { behavior = kind.Collector (delivers after).0 })) (delivers after).1.outputs
   told_answers o og words c after is told reacts brings inv =
@@ -349,7 +349,7 @@ module _ (setups : List Setup) (cs : List Chunk) (chunks : AreChunks cs) (few : 
         (λ can. value_steps can (is_asked og) refl)
         (λ cannot. on_if P (is_asked og) (record x.collector { held = x.collector.held ++ held_as og q ∷ [] }, answers answer.Hold) (x.collector, quiet) (λ asked. hold_steps cannot asked) (λ asked. quiet_steps asked))
 
-  question_reads : (o : Outlined Kind) (og : Origin) (words : List ℕ) (q : Question) (c : Collector) → o.outline.behavior ≡ kind.Collector c → reacted (kind.Collector c) (Content og words) ≡ as_kind kind.Collector (on_question c og q)
+  pub question_reads : (o : Outlined Kind) (og : Origin) (words : List ℕ) (q : Question) (c : Collector) → o.outline.behavior ≡ kind.Collector c → reacted (kind.Collector c) (Content og words) ≡ as_kind kind.Collector (on_question c og q)
       → comes setups cs place (Content og words) ≡ true → Collects o.outline.behavior
       → content kind_rules o og words ≡ outline.answer (with_outline o (record o.outline { behavior = kind.Collector (on_question c og q).0 })) og words (on_question c og q).1.answer
   question_reads o og words q c is reacts brings inv =
@@ -369,7 +369,7 @@ module _ (setups : List Setup) (cs : List Chunk) (chunks : AreChunks cs) (few : 
 
   -- ---- one envelope
 
-  abbrev IsBrought : PlainInput → Type 0
+  abbrev pub IsBrought : PlainInput → Type 0
   IsBrought (Content og words) = ((is_asked og ≡ false) × Contains (told_to cs name.Collector false) words) ⊎ ((og.mid.requester ≡ 0) × Contains (asked_of name.Collector) words)
   IsBrought _ = Unit {0}
 

@@ -49,3 +49,4 @@ pub mod PlayLemmas
 pub mod AwaitingLemmas
 pub mod IssueLemmas
 pub mod SenderLemmas
+pub mod ReplyLemmas
