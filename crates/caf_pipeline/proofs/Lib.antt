@@ -50,3 +50,4 @@ pub mod AwaitingLemmas
 pub mod IssueLemmas
 pub mod SenderLemmas
 pub mod ReplyLemmas
+pub mod StartedLemmas

@@ -70,7 +70,7 @@ plays_out o i next h leads none =
     played_at o i (plays h.conducting (next, [])).0
     (ap (λ (x : Kind). kind_rules.next x i) h.is ∙ leads ∙ ap (λ (p : script.Played). kind.Conductor (plays h.conducting p).0) (goes_nowhere next none)) none
 
-answered_plan : (s : Script) (o : Option ℕ) (words : List ℕ) → (answered_at s o words).plan ≡ s.plan
+pub answered_plan : (s : Script) (o : Option ℕ) (words : List ℕ) → (answered_at s o words).plan ≡ s.plan
 answered_plan s None words = refl
 answered_plan s (Some step) words = refl
 
@@ -94,7 +94,7 @@ played_out = record {
         go true q = rw q (value_played o w.tag words h)
         go false q = rw q (error_played o w.tag _ h)
 
-any_envelopes : (es : List Taken) → AllByRecursion (λ (e : Taken). Unit {0}) es
+pub any_envelopes : (es : List Taken) → AllByRecursion (λ (e : Taken). Unit {0}) es
 any_envelopes [] = tt
 any_envelopes (e ∷ es) = (tt, any_envelopes es)
 
@@ -180,7 +180,7 @@ module _ (setups : List Setup) (steps : List Step) (files : List (List ℕ)) (ti
             (all_right (Brings (mayAt 0)) first.first.taken (joined first.later) (subst (λ (bs : List TakenBatch). AllByRecursion (Brings (mayAt 0)) (joined bs)) first.whole (brought setups steps files ticks k ts is 0)));
       }
 
-  starts_played : PlayedOut (react kind_rules opened Start)
+  pub starts_played : PlayedOut (react kind_rules opened Start)
   starts_played =
       played_at opened Start (plays conducting (goes_on conducting.script)).0 (ap (λ (l : Outline Kind). kind_rules.next l.behavior Start) opens_as) (script_is_sent who_conducts setups steps is.undisturbed).none_left
 
