@@ -51,3 +51,5 @@ pub mod IssueLemmas
 pub mod SenderLemmas
 pub mod ReplyLemmas
 pub mod StartedLemmas
+pub mod TotalLemmas
+pub mod BalanceLemmas
