@@ -53,3 +53,4 @@ pub mod ReplyLemmas
 pub mod StartedLemmas
 pub mod TotalLemmas
 pub mod BalanceLemmas
+pub mod AnsweredLemmas
