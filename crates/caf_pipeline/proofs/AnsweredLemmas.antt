@@ -1,5 +1,5 @@
 -- Where an undisturbed run is at rest, each request of its conductor has its final answer.
-use Rattle.std.proofs.Common.{◌≡◌, ℕ, zero, suc, ◌+◌, ◌-◌, ◌≤◌, ◌<◌, nat_lt, Bool, true, false, List, [], ◌∷◌, length, map, count_by, Option, Some, None, inl, inr, refl, sym, subst, ap, ◌∙◌, arith}
+use Rattle.std.proofs.Common.{◌≡◌, ℕ, suc, ◌+◌, ◌-◌, ◌≤◌, ◌<◌, nat_lt, true, false, List, [], ◌∷◌, length, count_by, Option, Some, None, inl, inr, refl, sym, subst, ap, ◌∙◌, arith}
 use Rattle.std.specs.Prelude.{◌⊎◌, Contains, slice_get}
 use Rattle.std.specs.FinMap as finite
 use Rattle.std.specs.List.{AllByRecursion, sum_by}
@@ -8,20 +8,16 @@ use Rattle.caf_index.specs.Chunks.{lines_of}
 use Rattle.caf_index.specs.Filled.{with_entries}
 use Rattle.caf_index.specs.Index.{Entries}
 use Rattle.caf_index.specs.PlainIndex.{plain_index_of}
-use Rattle.caf_index.proofs.ContainsLemmas.{contains-none, contains-here, contains-later, contains-cases, from-map}
+use Rattle.caf_index.proofs.ContainsLemmas.{contains-here, contains-later, from-map}
 use Rattle.caf_message.specs.Envelope.{start_envelope}
 use Rattle.caf_message.specs.declared.envelope.Plain.{Plain}
 use Rattle.caf_message.specs.declared.envelope.Plain.TheVariants as «plain»
 use Rattle.caf_message.specs.declared.envelope.Taken.{Taken}
 use Rattle.caf_types.specs.declared.notice.Mid.{Mid}
 use Rattle.caf_types.specs.declared.notice.Notice.TheVariants as notice
-use Rattle.caf_types.specs.declared.sec.Sec.{Sec}
 use Rattle.caf_actor.specs.Answering.{is_asked, origin_of}
-use Rattle.caf_actor.specs.PlainInput.{PlainInput}
-use Rattle.caf_actor.specs.PlainPost.{PlainPost}
 use Rattle.caf_actor.specs.Record.{Kept, machine_of, IsAtRest, ends, joined, posted}
 use Rattle.caf_actor.specs.Run.{Turn}
-use Rattle.caf_actor.specs.declared.journal.TakenBatch.{TakenBatch}
 use Rattle.caf_actor.specs.declared.snapshot.Snapshot.{Snapshot}
 use Rattle.caf_response.specs.Holds.{is_of}
 use Rattle.caf_response.specs.Promised.{Promised}
@@ -33,7 +29,6 @@ use Rattle.caf_kinds.specs.Setups.{setup_at}
 use Rattle.caf_kinds.specs.declared.contents.Chunk.{Chunk}
 use Rattle.caf_kinds.specs.declared.contents.Extent.{Extent}
 use Rattle.caf_kinds.specs.declared.kind.Kind.{Kind}
-use Rattle.caf_kinds.specs.declared.kind.Kind.TheVariants as kind
 use Rattle.caf_kinds.specs.declared.questions.Question.{Question}
 use Rattle.caf_kinds.specs.declared.questions.Question.TheVariants as question
 use Rattle.caf_kinds.specs.declared.script.Step.{Step}
@@ -46,29 +41,27 @@ use Rattle.caf_steady.specs.Reading.{read, all_in_turn}
 use Rattle.caf_steady.specs.Steady.{Brings, reading}
 use Rattle.caf_pipeline.specs.Undisturbed.{Pipeline, IsPlainScript}
 use Rattle.caf_pipeline.specs.Answered.{HasAnswers, AreAnswered, RestingRequestsAreAnswered}
-use Rattle.caf_pipeline.specs.Contents.{comes, OpensAs}
+use Rattle.caf_pipeline.specs.Contents.{comes}
 use Rattle.caf_pipeline.specs.Flow.{IsUndisturbedRecord}
 use Rattle.caf_pipeline.proofs.AnsweringLemmas.{IsAsked, content_of_question, IsAskedSo, IsRight, Collecting, IsKept, IsReplied, AllSteps, all_steps, all_replied}
 use Rattle.caf_pipeline.proofs.AnsweringLemmas as answering
 use Rattle.caf_pipeline.proofs.ArrivalLemmas.{arrives, all_turns_have}
-use Rattle.caf_pipeline.proofs.AwaitingLemmas.{IsAwaiting, IsRightResponse, right_reply, AllSettled, all_settle, waiting_of, asked_above}
+use Rattle.caf_pipeline.proofs.AwaitingLemmas.{IsRightResponse, right_reply, AllSettled, all_settle, waiting_of, asked_above}
 use Rattle.caf_pipeline.proofs.BalanceLemmas.{SentBy, balances, collector_took}
 use Rattle.caf_pipeline.proofs.CollectedLemmas.{chunks, brought, starts, begins_as}
 use Rattle.caf_pipeline.proofs.CollectorLemmas.{Collects}
 use Rattle.caf_pipeline.proofs.CountLemmas.{weigh_all, weigh_one, lines_of_all, bytes_of_all}
 use Rattle.caf_pipeline.proofs.FlowLemmas.{as_content}
 use Rattle.caf_pipeline.proofs.IndexedLemmas.{told_entries}
-use Rattle.caf_pipeline.proofs.IssueLemmas.{HasIssued, IsAskedOf, IsSentRight}
-use Rattle.caf_pipeline.proofs.ListLemmas.{one_of, all_of}
+use Rattle.caf_pipeline.proofs.IssueLemmas.{IsAskedOf}
+use Rattle.caf_pipeline.proofs.ListLemmas.{one_of}
 use Rattle.caf_pipeline.proofs.OpeningLemmas.{stands}
 use Rattle.caf_pipeline.proofs.PassingLemmas.{weight_as, weight_at, kind_weight}
 use Rattle.caf_pipeline.proofs.PlaceLemmas.{one_of_setups}
-use Rattle.caf_pipeline.proofs.ReplyLemmas.{IsReply}
 use Rattle.caf_pipeline.proofs.ScriptLemmas.{HasBegun, has_begun, read_any, turns_brought}
-use Rattle.caf_pipeline.proofs.SenderLemmas.{IsSentBy, from_where, all_turns_had}
+use Rattle.caf_pipeline.proofs.SenderLemmas.{from_where, all_turns_had}
 use Rattle.caf_pipeline.proofs.StartedLemmas.{started, first_sent, issued, awaiting}
 use Rattle.caf_pipeline.proofs.TallyLemmas.{final_answer, came, body_weight, none_each, one_each, lines_each, bytes_each, Tallied}
-use Rattle.caf_pipeline.proofs.TellingLemmas.{IsToldBare}
 use Rattle.caf_pipeline.proofs.UndisturbedLemmas.{undisturbed_files_are_indexed}
 use Rattle.caf_pipeline.proofs.WeightLemmas.{taken_weight}
 
@@ -103,7 +96,7 @@ plain_long p (first ∷ []) plays = absurd plays
 plain_long p (first ∷ second ∷ others) plays = omega arith
 
 module _ (setups : List Setup) (steps : List Step) (files : List (List ℕ)) (ticks : ℕ) (k : Kept (Snapshot Kind)) (ts : List Turn) (is : IsUndisturbedRecord setups steps files ticks k ts) (rest : IsAtRest (machine_of kind_rules) k) where
-  abbrev p : Pipeline
+  abbrev pub p : Pipeline
   p = is.undisturbed.pipeline
 
   abbrev up : Setup
@@ -115,19 +108,19 @@ module _ (setups : List Setup) (steps : List Step) (files : List (List ℕ)) (ti
   abbrev each : AreChunks cs
   each = chunks setups steps files ticks k ts is
 
-  abbrev turns : List Taken
+  abbrev pub turns : List Taken
   turns = all_in_turn (k.journal p.collector)
 
   abbrev sent_of : ℕ → List Bare
   sent_of q = (reading kind_rules (k.start q) (k.journal q)).sent
 
-  abbrev lines : ℕ
+  abbrev pub lines : ℕ
   lines = sum_by (λ bytes. length (lines_of bytes)) files
 
-  abbrev bytes : ℕ
+  abbrev pub bytes : ℕ
   bytes = sum_by length files
 
-  abbrev index : Entries
+  abbrev pub index : Entries
   index = with_entries finite.empty (told_entries turns)
 
   -- ---- what the collector has to count
@@ -264,13 +257,13 @@ module _ (setups : List Setup) (steps : List Step) (files : List (List ℕ)) (ti
 
   -- ---- what the conductor takes
 
-  abbrev begun : HasBegun setups steps files ticks k ts is
+  abbrev pub begun : HasBegun setups steps files ticks k ts is
   begun = has_begun setups steps files ticks k ts is rest
 
-  abbrev later : List Taken
+  abbrev pub later : List Taken
   later = all_in_turn begun.later
 
-  abbrev first_sent_by : List Bare
+  abbrev pub first_sent_by : List Bare
   first_sent_by = (started setups steps files ticks k ts is).sent
 
   abbrev Responds : Taken → Type 0
@@ -324,11 +317,8 @@ module _ (setups : List Setup) (steps : List Step) (files : List (List ℕ)) (ti
         ap (λ (x : Bare). x.body) from.2,
       )
 
-  settled_at : (m : ℕ) (q : Question) → IsAsked m q → m < length steps → slice_get settles.awaiting.conducting.script.replies m ≡ Some (right_reply (length steps) lines bytes index first_sent_by q)
-  settled_at m q asked low = elim (settles.awaiting.settled m q asked low) [
-    | inl some ↦ (let none = answered_none in absurd (omega (arith, none, some)))
-    | inr done ↦ done
-  ]
+  pub waits_no_more : (m : ℕ) (q : Question) → IsAsked m q → m < length steps → waiting_of (length steps) lines bytes index first_sent_by m (read kind_rules (started setups steps files ticks k ts is) later) ≡ 0
+  waits_no_more m q asked low = answered_none
     where
       above : 1 ≤ m
       above = asked_above m q asked
@@ -372,6 +362,12 @@ module _ (setups : List Setup) (steps : List Step) (files : List (List ℕ)) (ti
               let same : at_conductor.0.mid.number ≡ m = ap (λ (x : Mid). x.number) at_conductor.2 ∙ replied.2 ∙ number_is in
               subst (λ (n : ℕ). waiting_of (length steps) lines bytes index first_sent_by n (read kind_rules (started setups steps files ticks k ts is) later) ≡ 0) same (settles.none at_conductor.0 (final_answer index lines bytes right.question) has body_is response)
 
+  settled_at : (m : ℕ) (q : Question) → IsAsked m q → m < length steps → slice_get settles.awaiting.conducting.script.replies m ≡ Some (right_reply (length steps) lines bytes index first_sent_by q)
+  settled_at m q asked low = elim (settles.awaiting.settled m q asked low) [
+    | inl some ↦ (let none = waits_no_more m q asked low in absurd (omega (arith, none, some)))
+    | inr done ↦ done
+  ]
+
   -- ---- the end
 
   abbrev pub replies_at_end : List Reply
@@ -383,16 +379,15 @@ module _ (setups : List Setup) (steps : List Step) (files : List (List ℕ)) (ti
   script_long : 2 ≤ length steps
   script_long = plain_long p steps is.undisturbed.plays
 
-  pub answered : AreAnswered k steps files
-  answered = record {
-    replies = replies_at_end;
-    has = ap (λ (o : Outline Kind). replies_of o.behavior) conductor_stands ∙ ap replies_of settles.awaiting.is;
-    are = record {
-      first = settles.awaiting.first;
-      index = settled_at 1 question.Index (inl (refl, refl)) (let long = script_long in omega (arith, long)) ∙ ap (λ x. Some (right_reply (length steps) lines bytes x first_sent_by question.Index)) index_is;
-      totals = λ m above low. settled_at m question.Totals (inr (above, refl)) low;
-    };
+  pub has_answers : HasAnswers steps files replies_at_end
+  has_answers = record {
+    first = settles.awaiting.first;
+    index = settled_at 1 question.Index (inl (refl, refl)) (let long = script_long in omega (arith, long)) ∙ ap (λ x. Some (right_reply (length steps) lines bytes x first_sent_by question.Index)) index_is;
+    totals = λ m above low. settled_at m question.Totals (inr (above, refl)) low;
   }
+
+  pub answered : AreAnswered k steps files
+  answered = record { replies = replies_at_end; has = ap (λ (o : Outline Kind). replies_of o.behavior) conductor_stands ∙ ap replies_of settles.awaiting.is; are = has_answers }
 
 pub resting_requests_are_answered : RestingRequestsAreAnswered
 resting_requests_are_answered setups steps files ticks k ts is rest = answered setups steps files ticks k ts is rest

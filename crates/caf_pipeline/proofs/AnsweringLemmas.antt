@@ -7,7 +7,6 @@ use Rattle.std.proofs.lemmas.List.Elements.{Contains-append_left, Contains-appen
 use Rattle.caf_index.specs.Index.{Entries}
 use Rattle.caf_index.proofs.ContainsLemmas.{contains-none, contains-here, contains-later, contains-cases, from-map}
 use Rattle.caf_mailbox.proofs.NextLemmas.{all_append, all_filter}
-use Rattle.caf_message.specs.Content.{ids_in}
 use Rattle.caf_message.specs.declared.envelope.Plain.TheVariants as «plain»
 use Rattle.caf_message.specs.declared.envelope.Taken.{Taken}
 use Rattle.caf_response.specs.Holds.{is_of, is_before, with_hold}
@@ -24,7 +23,7 @@ use Rattle.caf_kinds.specs.Keeping.{on_if}
 use Rattle.caf_kinds.specs.Kinds.{kind_rules, reacted, as_kind}
 use Rattle.caf_kinds.specs.Lines.{extent_of}
 use Rattle.caf_kinds.specs.Questions.{held as held_as}
-use Rattle.caf_kinds.specs.Reacting.{Reacted, answers, done, quiet}
+use Rattle.caf_kinds.specs.Reacting.{Reacted, answers, quiet}
 use Rattle.caf_kinds.specs.Relay.{lowered}
 use Rattle.caf_kinds.specs.Setups.{setup_at}
 use Rattle.caf_kinds.specs.Source.{finish_of}
@@ -45,7 +44,7 @@ use Rattle.caf_pipeline.specs.Parts.{index_content, totals_content, told_extent,
 use Rattle.caf_pipeline.specs.Contents.{counted, told_to, asked_of, comes_as, comes}
 use Rattle.caf_pipeline.proofs.ClassLemmas.{at_content, Goes}
 use Rattle.caf_pipeline.proofs.CollectorLemmas.{Collects, collector_goes}
-use Rattle.caf_pipeline.proofs.FlowLemmas.{BringsContent, as_content, one_reads, one_leads}
+use Rattle.caf_pipeline.proofs.FlowLemmas.{BringsContent, as_content, one_reads}
 use Rattle.caf_pipeline.proofs.HoldLemmas.{has_asked, IsReplyTo, delivery, Delivers, deliver_all}
 use Rattle.caf_pipeline.proofs.ListLemmas.{one_of, all_of}
 use Rattle.caf_pipeline.proofs.PartLemmas.{hands_on}
@@ -62,7 +61,7 @@ filter_passes test (x ∷ xs) = go (test x) refl (filter_passes test xs)
     go true q rest = rw q (q, rest)
     go false q rest = rw q rest
 
-counted_has : {A : Type 0} (test : A → Bool) (xs : List A) → 0 < count_by test xs → (x : A) × Contains xs x × (test x ≡ true)
+pub counted_has : {A : Type 0} (test : A → Bool) (xs : List A) → 0 < count_by test xs → (x : A) × Contains xs x × (test x ≡ true)
 counted_has test [] some = absurd (omega (arith, some))
 counted_has test (x ∷ xs) some = go (test x) refl (counted_has test xs)
   where

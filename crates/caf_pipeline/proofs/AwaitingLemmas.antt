@@ -1,6 +1,6 @@
 -- What becomes of the conductor's replies while it takes the answers to its requests.
-use Rattle.std.proofs.Common.{◌≡◌, ◌≢◌, ℕ, suc, ◌+◌, ◌-◌, ◌≤◌, ◌<◌, ◌==◌, Bool, true, false, List, [], ◌∷◌, ◌++◌, length, drop, count_by, Option, Some, None, inl, inr, refl, sym, subst, ap, ◌∙◌, arith}
-use Rattle.std.specs.Prelude.{◌⊎◌, bytes_eq, slice_get, slice_set, Contains, if◌then◌else◌}
+use Rattle.std.proofs.Common.{◌≡◌, ℕ, ◌+◌, ◌-◌, ◌≤◌, ◌<◌, ◌==◌, Bool, true, false, List, [], ◌∷◌, length, drop, count_by, Option, Some, None, inl, inr, refl, sym, subst, ap, ◌∙◌, arith}
+use Rattle.std.specs.Prelude.{◌⊎◌, bytes_eq, slice_get, slice_set, Contains}
 use Rattle.std.specs.List.{AllByRecursion}
 use Rattle.std.proofs.lemmas.Bool.Decides.{nat_tests}
 use Rattle.caf_index.specs.Index.{Entries}
@@ -10,7 +10,7 @@ use Rattle.caf_message.specs.Content.{ids_in}
 use Rattle.caf_message.specs.Lists.{pick}
 use Rattle.caf_message.specs.declared.envelope.Plain.TheVariants as «plain»
 use Rattle.caf_message.specs.declared.envelope.Taken.{Taken}
-use Rattle.caf_response.specs.Pending.{WaitingRequests, has_number, from_awaited, from_multiplexed, without_due, resolved}
+use Rattle.caf_response.specs.Pending.{WaitingRequests, has_number, from_awaited, without_due, resolved}
 use Rattle.caf_response.specs.declared.pending.Waiting.{Waiting}
 use Rattle.caf_words.specs.Several.{ids_of}
 use Rattle.caf_carriers.proofs.CountLemmas.{one, self_same, same_number}
@@ -18,7 +18,7 @@ use Rattle.caf_types.specs.declared.sec.Sec.{Sec}
 use Rattle.caf_actor.specs.Answering.{origin_of}
 use Rattle.caf_actor.specs.Handling.{response_input}
 use Rattle.caf_actor.specs.PlainInput.{PlainInput, Start, Response}
-use Rattle.caf_script.specs.Reply.{Reply, Unsent, Answered, spelled_in, reply_of}
+use Rattle.caf_script.specs.Reply.{Reply, Unsent, Answered}
 use Rattle.caf_script.specs.Script.{goes_on, answered, answered_at, answer_to, step_of, Played}
 use Rattle.caf_script.specs.declared.script.Script.{Script}
 use Rattle.caf_kinds.specs.Conductor.{Conducting, plays}
@@ -218,7 +218,17 @@ module _ (steps lines bytes : ℕ) (index : Entries) (sent_first : List Bare) wh
   pub awaits : IsConducted IsRightResponse IsAwaiting
   awaits = record {
     on_start = λ o x. subst IsAwaiting (sym (quiet_react o Start x.conducting x.conducting.script x.is refl x.none_left)) (record {
-      conducting = x.conducting; is = refl; none_left = x.none_left; first = x.first; many = x.many; expects = x.expects; awaited = x.awaited; waiting = x.waiting; once = x.once; settled = x.settled; sent = x.sent;
+      conducting = x.conducting;
+      is = refl;
+      none_left = x.none_left;
+      first = x.first;
+      many = x.many;
+      expects = x.expects;
+      awaited = x.awaited;
+      waiting = x.waiting;
+      once = x.once;
+      settled = x.settled;
+      sent = x.sent;
     });
     on_value = λ o e words found x right body response f. value o e words found x body f (right.value words body response);
     on_error = λ o e sec found x right body f. absurd (right.no_error sec body);

@@ -1,6 +1,5 @@
 -- The chunks of files have as many lines and bytes together as the files.
-use Rattle.std.proofs.Common.{◌≡◌, ℕ, zero, suc, ◌+◌, ◌<◌, Bool, true, false, List, [], ◌∷◌, ◌++◌, length, take, drop, refl, sym, subst, ap, ◌∙◌, arith, append-nil}
-use Rattle.std.specs.Prelude.{if◌then◌else◌}
+use Rattle.std.proofs.Common.{◌≡◌, ℕ, zero, suc, ◌+◌, Bool, true, false, List, [], ◌∷◌, ◌++◌, length, take, drop, refl, sym, ap, ◌∙◌, arith, append-nil}
 use Rattle.std.specs.List.{sum_by}
 use Rattle.std.proofs.lemmas.List.{length-append, take-append-drop}
 use Rattle.std.proofs.lemmas.List.Sums.{sum_by-cons}
@@ -8,7 +7,7 @@ use Rattle.caf_index.specs.Chunks.{before_lines, lines_of, size_of, lines_after,
 use Rattle.caf_index.specs.Words.{is_line_end}
 use Rattle.caf_index.specs.declared.chunk.Chunk.{Chunk as Span}
 use Rattle.caf_index.proofs.ChunkLawLemmas.{joined, joined-none, joined-cons, joined-lines, size-joined, behind-line, chunk-lines}
-use Rattle.caf_kinds.specs.FileChunks.{chunk_at, chunks_numbered, chunks_from, all_chunks}
+use Rattle.caf_kinds.specs.FileChunks.{chunks_numbered, chunks_from, all_chunks}
 use Rattle.caf_kinds.specs.declared.contents.Chunk.{Chunk}
 
 -- ---- sums

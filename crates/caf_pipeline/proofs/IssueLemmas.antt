@@ -1,5 +1,5 @@
 -- At Start the conductor of an undisturbed script issues its requests, which have the numbers from 1 on.
-use Rattle.std.proofs.Common.{◌≡◌, ℕ, zero, suc, ◌+◌, ◌-◌, ◌≤◌, ◌<◌, ◌==◌, nat_le, Bool, true, false, List, [], ◌∷◌, ◌++◌, length, count_by, inl, inr, refl, sym, subst, ap, ◌∙◌, arith}
+use Rattle.std.proofs.Common.{◌≡◌, ℕ, suc, ◌+◌, ◌-◌, ◌≤◌, ◌<◌, ◌==◌, nat_le, Bool, true, false, List, [], ◌∷◌, length, count_by, inl, inr, refl, sym, subst, ap, ◌∙◌, arith}
 use Rattle.std.specs.Prelude.{◌⊎◌, Contains}
 use Rattle.std.specs.List.{AllByRecursion}
 use Rattle.std.proofs.lemmas.Bool.{le-leb}
@@ -26,8 +26,8 @@ use Rattle.caf_kinds.specs.declared.setup.KindName.{KindName}
 use Rattle.caf_kinds.specs.declared.setup.KindName.TheVariants as name
 use Rattle.caf_steady.specs.Outline.{Outlined, Bare, with_outline, send, request, send_output, send_outputs}
 use Rattle.caf_pipeline.specs.Undisturbed.{Pipeline}
-use Rattle.caf_pipeline.specs.Parts.{start_content, index_content, totals_content}
-use Rattle.caf_pipeline.specs.Sent.{summary_types, total_types, IsTell, IsRequest, AreTotals, AreSent}
+use Rattle.caf_pipeline.specs.Parts.{start_content}
+use Rattle.caf_pipeline.specs.Sent.{IsTell, IsRequest, AreTotals, AreSent}
 use Rattle.caf_pipeline.proofs.AnsweringLemmas.{IsAsked, content_of_question}
 use Rattle.caf_pipeline.proofs.AwaitingLemmas.{IsWaitingRight}
 use Rattle.caf_pipeline.proofs.PassingLemmas.{kind_weight}

@@ -54,3 +54,4 @@ pub mod StartedLemmas
 pub mod TotalLemmas
 pub mod BalanceLemmas
 pub mod AnsweredLemmas
+pub mod ClosedLemmas

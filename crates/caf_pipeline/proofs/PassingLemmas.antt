@@ -1,5 +1,5 @@
 -- Weights of what is told in a pipeline: lines, the relay and the counters pass on as much as they take.
-use Rattle.std.proofs.Common.{◌≡◌, ℕ, ◌+◌, ◌<◌, ◌==◌, Bool, true, false, List, [], ◌∷◌, ◌++◌, length, map, Option, Some, None, refl, sym, subst, ap, ◌∙◌, arith, append_assoc}
+use Rattle.std.proofs.Common.{◌≡◌, ℕ, ◌+◌, ◌==◌, true, false, List, [], ◌∷◌, ◌++◌, length, map, Option, Some, None, refl, sym, subst, ap, ◌∙◌, arith}
 use Rattle.std.specs.Prelude.{◌%◌, Contains, if◌then◌else◌}
 use Rattle.std.specs.List.{AllByRecursion}
 use Rattle.caf_types.specs.declared.notice.Priority.TheVariants as priority
@@ -18,7 +18,7 @@ use Rattle.caf_kinds.specs.Asking.{has, asked}
 use Rattle.caf_kinds.specs.FileChunks.{IsChunk, AreChunks}
 use Rattle.caf_kinds.specs.Kinds.{kind_rules, interface, reacted}
 use Rattle.caf_kinds.specs.Lines.{extent_of}
-use Rattle.caf_kinds.specs.Pipeline.{of_chunk, of_postings, of_extent, of_finish, chunk_content, chunk_in, extent_in, sends}
+use Rattle.caf_kinds.specs.Pipeline.{of_chunk, of_postings, of_extent, of_finish, chunk_content, chunk_in, extent_in}
 use Rattle.caf_kinds.specs.Reacting.{Reacted, done}
 use Rattle.caf_kinds.specs.Relay.{lowered, peer_for}
 use Rattle.caf_kinds.specs.Setups.{setup_at}
@@ -37,10 +37,10 @@ use Rattle.caf_pipeline.specs.Undisturbed.{Pipeline, IsSetUp, IsPipeline}
 use Rattle.caf_pipeline.specs.Parts.{told_extent, told_finish}
 use Rattle.caf_pipeline.specs.Contents.{relayed, counted, told_to, asked_of, comes_as, comes}
 use Rattle.caf_pipeline.proofs.ClassLemmas.{at_content, Goes}
-use Rattle.caf_pipeline.proofs.FlowLemmas.{BringsContent, as_content, one_reads, one_stays}
+use Rattle.caf_pipeline.proofs.FlowLemmas.{as_content, one_reads, one_stays}
 use Rattle.caf_pipeline.proofs.ListLemmas.{one_of}
 use Rattle.caf_pipeline.proofs.PartLemmas.{hands_on, chunk_back, extent_back}
-use Rattle.caf_pipeline.proofs.TellerLemmas.{MeasuresFor, RelaysFor, CountsFor, lines_goes, relay_goes, counter_goes, got}
+use Rattle.caf_pipeline.proofs.TellerLemmas.{MeasuresFor, RelaysFor, CountsFor, got}
 use Rattle.caf_pipeline.proofs.TellingLemmas.{IsTelling, IsToldBare, told_bares, all_told_bares, content_tells}
 use Rattle.caf_pipeline.proofs.WeightLemmas.{taken_weight}
 

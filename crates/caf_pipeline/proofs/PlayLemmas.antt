@@ -1,12 +1,11 @@
 -- What a script expects and has of replies once it is played to its end.
-use Rattle.std.proofs.Common.{◌≡◌, ◌≢◌, ℕ, zero, suc, ◌+◌, ◌≤◌, ◌<◌, ◌==◌, Bool, true, false, List, [], ◌∷◌, ◌++◌, length, map, Option, Some, inl, inr, refl, sym, subst, ap, ◌∙◌, arith, append_assoc}
-use Rattle.std.specs.Prelude.{◌⊎◌, slice_get, slice_set, if◌then◌else◌}
+use Rattle.std.proofs.Common.{◌≡◌, ◌≢◌, ℕ, zero, suc, ◌+◌, ◌<◌, Bool, true, List, [], ◌∷◌, ◌++◌, length, map, Some, inl, inr, refl, sym, subst, ap, ◌∙◌, arith, append_assoc}
+use Rattle.std.specs.Prelude.{slice_get, slice_set, if◌then◌else◌}
 use Rattle.std.specs.List.{AllByRecursion}
-use Rattle.std.proofs.lemmas.Bool.Decides.{nat_tests}
 use Rattle.std.proofs.lemmas.List.{append-nil, length-append}
 use Rattle.caf_types.specs.declared.shape.TypeId.{TypeId}
 use Rattle.caf_actor.specs.PlainOutput.{PlainOutput}
-use Rattle.caf_script.specs.Reply.{Reply, Open}
+use Rattle.caf_script.specs.Reply.{Open}
 use Rattle.caf_script.specs.Script.{is_met, replies_after, behind, play}
 use Rattle.caf_script.specs.Step as played
 use Rattle.caf_script.specs.Step.{sent, expects, waits_for}

@@ -12,9 +12,8 @@ use Rattle.caf_message.specs.declared.envelope.Taken.{Taken}
 use Rattle.caf_response.specs.Holds.{take_hold}
 use Rattle.caf_response.specs.Promised.{Promised}
 use Rattle.caf_actor.specs.Answering.{is_asked, origin_of}
-use Rattle.caf_actor.specs.PlainInput.{PlainInput, Content}
+use Rattle.caf_actor.specs.PlainInput.{Content}
 use Rattle.caf_actor.specs.PlainReaction as answer
-use Rattle.caf_actor.specs.declared.origin.Origin.{Origin}
 use Rattle.caf_kinds.specs.Collector.{is_answerable, reply, delivers, with_postings, with_extent, with_finish, in_tally, on_question}
 use Rattle.caf_kinds.specs.Counter.{postings_at}
 use Rattle.caf_kinds.specs.FileChunks.{IsChunk, AreChunks}

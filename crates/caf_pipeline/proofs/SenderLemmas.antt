@@ -1,6 +1,6 @@
 -- Who sent what was taken: at rest each envelope is Start, or one that a place sent.
-use Rattle.std.proofs.Common.{◌≡◌, ℕ, ◌+◌, ◌≤◌, ◌<◌, ◌==◌, ◌&&◌, Bool, true, false, List, [], ◌∷◌, ◌++◌, map, inl, inr, refl, sym, subst, ap, ◌∙◌, arith}
-use Rattle.std.specs.Prelude.{Contains, not, filter, ◌⊎◌, if◌then◌else◌}
+use Rattle.std.proofs.Common.{◌≡◌, ℕ, ◌+◌, ◌≤◌, ◌<◌, ◌==◌, Bool, true, false, List, [], ◌∷◌, ◌++◌, map, inl, inr, refl, sym, subst, ap, ◌∙◌, arith}
+use Rattle.std.specs.Prelude.{Contains, not, filter, ◌⊎◌}
 use Rattle.std.proofs.lemmas.Bool.Decides.{nat_tests}
 use Rattle.std.proofs.lemmas.List.Elements.{Contains-append_left, Contains-append_right, Contains-append_cases}
 use Rattle.caf_index.proofs.ContainsLemmas.{contains-none, contains-here, contains-later, contains-cases, contains-map}
@@ -8,10 +8,9 @@ use Rattle.caf_mailbox.specs.Caches.{is_urgent, is_normal}
 use Rattle.caf_message.specs.Envelope.{outside, start_envelope}
 use Rattle.caf_message.specs.declared.envelope.Plain.{Plain}
 use Rattle.caf_message.specs.declared.envelope.Taken.{Taken}
-use Rattle.caf_types.specs.declared.notice.Mid.{Mid}
 use Rattle.caf_carriers.proofs.CountLemmas.{self_same, same_number}
 use Rattle.caf_actor.specs.PlainPost.{PlainPost}
-use Rattle.caf_actor.specs.Record.{Machine, Kept, IsLegal, IsAtRest, from_place, to_place, joined, posted, sent, taken_by, sent_by, heard}
+use Rattle.caf_actor.specs.Record.{Machine, Kept, IsLegal, IsAtRest, from_place, to_place, joined, posted, sent, sent_by, heard}
 use Rattle.caf_actor.specs.declared.journal.TakenBatch.{TakenBatch}
 use Rattle.caf_steady.specs.Outline.{Bare, bare}
 use Rattle.caf_steady.specs.Reading.{in_turn, all_in_turn}

@@ -13,7 +13,6 @@ use Rattle.caf_types.specs.declared.notice.Priority.TheVariants as priority
 use Rattle.caf_actor.specs.Answering.{is_asked, origin_of}
 use Rattle.caf_actor.specs.PlainInput.{PlainInput, Content}
 use Rattle.caf_actor.specs.PlainOutput.{PlainOutput}
-use Rattle.caf_actor.specs.declared.origin.Origin.{Origin}
 use Rattle.caf_kinds.specs.FileChunks.{IsChunk, AreChunks}
 use Rattle.caf_kinds.specs.Kinds.{kind_rules, reacted, as_kind}
 use Rattle.caf_kinds.specs.Lines.{extent_of}
@@ -30,16 +29,16 @@ use Rattle.caf_kinds.specs.declared.setup.KindName.TheVariants as name
 use Rattle.caf_kinds.specs.declared.setup.Setup.{Setup}
 use Rattle.caf_kinds.specs.declared.source.Stage.{Stage}
 use Rattle.caf_kinds.specs.declared.source.Stage.TheVariants as stage
-use Rattle.caf_steady.specs.Outline.{Outlined, Bare}
+use Rattle.caf_steady.specs.Outline.{Outlined}
 use Rattle.caf_steady.specs.Reading.{read, read_one}
 use Rattle.caf_steady.specs.Steady.{Brings}
 use Rattle.caf_pipeline.specs.Undisturbed.{Pipeline, IsPipeline}
-use Rattle.caf_pipeline.specs.Parts.{start_content, told_finish}
+use Rattle.caf_pipeline.specs.Parts.{start_content}
 use Rattle.caf_pipeline.specs.Contents.{told_to, comes_as, comes}
 use Rattle.caf_pipeline.proofs.ClassLemmas.{at_content, Goes}
 use Rattle.caf_pipeline.proofs.CountLemmas.{weigh_all, weigh_append}
 use Rattle.caf_pipeline.proofs.FlowLemmas.{BringsContent, as_content, one_leads, one_reads}
-use Rattle.caf_pipeline.proofs.PassingLemmas.{weight_at, weighs_as, chunk_weighs, bare_weight, bare_append, TellsOn, tells_as, finish_weighs}
+use Rattle.caf_pipeline.proofs.PassingLemmas.{weight_at, weighs_as, chunk_weighs, bare_weight, bare_append, finish_weighs}
 use Rattle.caf_pipeline.proofs.ProgressLemmas.{goes}
 use Rattle.caf_pipeline.proofs.SourceLemmas.{SourcesFor}
 use Rattle.caf_pipeline.proofs.TellingLemmas.{IsTelling, IsToldBare, told_bares, told_append, all_told_bares, content_tells}

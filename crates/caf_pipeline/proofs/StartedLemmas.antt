@@ -1,18 +1,15 @@
 -- Where the conductor of an undisturbed run stands once it took Start: what it has sent, and what it waits for.
-use Rattle.std.proofs.Common.{◌≡◌, ℕ, zero, suc, ◌+◌, ◌-◌, ◌≤◌, ◌<◌, Bool, true, false, List, [], ◌∷◌, length, map, replicate, count_by, Option, Some, None, inl, inr, refl, sym, subst, ap, ◌∙◌, arith}
+use Rattle.std.proofs.Common.{◌≡◌, ℕ, zero, suc, ◌-◌, ◌≤◌, ◌<◌, Bool, true, false, List, [], ◌∷◌, length, replicate, count_by, Some, inl, inr, refl, sym, subst, ap, ◌∙◌, arith}
 use Rattle.std.specs.Prelude.{◌⊎◌, ◌==◌, nat_le, bytes_eq, slice_get}
-use Rattle.std.specs.List.{AllByRecursion}
 use Rattle.std.proofs.lemmas.Bool.Decides.{nat_tests}
 use Rattle.caf_index.specs.Index.{Entries}
 use Rattle.caf_message.specs.Content.{ids_in}
-use Rattle.caf_message.specs.declared.envelope.Taken.{Taken}
 use Rattle.caf_response.specs.Pending.{WaitingRequests, has_number}
 use Rattle.caf_response.specs.declared.pending.Waiting.{Waiting}
 use Rattle.caf_words.specs.Several.{ids_of}
-use Rattle.caf_types.specs.Limits.{last_count}
 use Rattle.caf_types.specs.declared.sec.Sec.{Sec}
 use Rattle.caf_actor.specs.Handling.{failure_input, response_input}
-use Rattle.caf_actor.specs.PlainInput.{PlainInput, Start, Response, Failed}
+use Rattle.caf_actor.specs.PlainInput.{Start, Response, Failed}
 use Rattle.caf_actor.specs.PlainOutput.{PlainOutput}
 use Rattle.caf_actor.specs.Record.{Kept, machine_of, IsAtRest}
 use Rattle.caf_actor.specs.Run.{Turn}
@@ -21,37 +18,31 @@ use Rattle.caf_script.specs.Reply as reply
 use Rattle.caf_script.specs.Reply.{Reply, Unsent}
 use Rattle.caf_script.specs.Script.{goes_on, answered, step_of, play, behind}
 use Rattle.caf_script.specs.Script as played_script
-use Rattle.caf_script.specs.Step as played
-use Rattle.caf_script.specs.Step.{sent, expects}
-use Rattle.caf_script.specs.declared.script.Script.{Script}
-use Rattle.caf_kinds.specs.Collector.{asking_index, asking_totals}
+use Rattle.caf_script.specs.Step.{sent}
 use Rattle.caf_kinds.specs.Conductor.{Conducting, plays}
 use Rattle.caf_kinds.specs.FileChunks.{all_chunks}
 use Rattle.caf_kinds.specs.Kinds.{kind_rules}
 use Rattle.caf_kinds.specs.Planning.{planned_step, planned_from, script_of}
-use Rattle.caf_kinds.specs.Source.{starting}
 use Rattle.caf_kinds.specs.declared.kind.Kind.{Kind}
 use Rattle.caf_kinds.specs.declared.kind.Kind.TheVariants as kind
-use Rattle.caf_kinds.specs.declared.questions.Question.{Question}
 use Rattle.caf_kinds.specs.declared.script.Step.{Step}
 use Rattle.caf_kinds.specs.declared.script.Step.TheVariants as step
 use Rattle.caf_kinds.specs.declared.setup.Setup.{Setup}
 use Rattle.caf_opening.specs.Opening.{conductor_at_0, who_conducts}
-use Rattle.caf_steady.specs.Outline.{Outline, Outlined, Bare, outline_of, with_outline, send_outputs}
-use Rattle.caf_steady.specs.Reading.{react, read, all_in_turn}
+use Rattle.caf_steady.specs.Outline.{Outline, Outlined, Bare, outline_of, with_outline}
+use Rattle.caf_steady.specs.Reading.{react, all_in_turn}
 use Rattle.caf_steady.specs.Steady.{reading}
-use Rattle.caf_pipeline.specs.Undisturbed.{Pipeline, IsPipeline, IsTold, IsPlainScript}
+use Rattle.caf_pipeline.specs.Undisturbed.{Pipeline, IsPipeline, IsPlainScript}
 use Rattle.caf_pipeline.specs.Flow.{IsUndisturbedRecord}
-use Rattle.caf_pipeline.proofs.AnsweringLemmas.{IsAsked}
 use Rattle.caf_pipeline.proofs.AwaitingLemmas.{IsWaitingRight, IsAwaiting, quiet_react, asked_above}
 use Rattle.caf_pipeline.proofs.ConductedLemmas.{IsConducted, without_request, all_conducted}
 use Rattle.caf_pipeline.proofs.IdleLemmas.{resolved_plan}
 use Rattle.caf_pipeline.proofs.IssueLemmas.{HasIssued, all_issued}
 use Rattle.caf_pipeline.proofs.ListLemmas.{all_of}
-use Rattle.caf_pipeline.proofs.PlayLemmas.{PlaysTo, plays_to, types_for, script_expects}
+use Rattle.caf_pipeline.proofs.PlayLemmas.{plays_to, script_expects}
 use Rattle.caf_pipeline.proofs.ReadLemmas.{outputs_same}
 use Rattle.caf_pipeline.proofs.ScriptLemmas.{PlayedOut, played_out, answered_plan, any_envelopes, conducting, opened, opens_as, has_begun, starts_played}
-use Rattle.caf_pipeline.proofs.SentLemmas.{NeverWaits, script_sends, script_is_sent}
+use Rattle.caf_pipeline.proofs.SentLemmas.{script_sends, script_is_sent}
 
 -- ---- nothing more is sent
 

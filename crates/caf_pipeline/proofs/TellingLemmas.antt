@@ -6,7 +6,6 @@ use Rattle.caf_mailbox.proofs.NextLemmas.{all_append}
 use Rattle.caf_message.specs.Content.{ids_in}
 use Rattle.caf_message.specs.Envelope.{no_request}
 use Rattle.caf_message.specs.declared.envelope.Plain.TheVariants as «plain»
-use Rattle.caf_types.specs.declared.notice.Mid.{Mid}
 use Rattle.caf_types.specs.declared.notice.Priority.{Priority}
 use Rattle.caf_actor.specs.Answering.{is_asked}
 use Rattle.caf_actor.specs.PlainInput.{PlainInput, Content}
@@ -15,7 +14,7 @@ use Rattle.caf_actor.specs.PlainReaction.{PlainAnswer}
 use Rattle.caf_actor.specs.Rules.{Rules, is_input}
 use Rattle.caf_actor.specs.declared.origin.Origin.{Origin}
 use Rattle.caf_kinds.specs.Reacting.{done}
-use Rattle.caf_steady.specs.Outline.{Outlined, Bare, with_outline, tell, tell_many, send_output, send_outputs, answer}
+use Rattle.caf_steady.specs.Outline.{Outlined, Bare, with_outline, tell, tell_many, send_outputs, answer}
 use Rattle.caf_steady.specs.Reading.{react, content}
 
 abbrev pub IsTelling : PlainOutput → Type 0

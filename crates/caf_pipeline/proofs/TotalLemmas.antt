@@ -1,62 +1,23 @@
 -- What the collector of an undisturbed run took, where all is at rest: as much weight as all chunks have, and one finish.
-use Rattle.std.proofs.Common.{◌≡◌, ◌≢◌, ℕ, zero, suc, ◌+◌, ◌≤◌, ◌<◌, ◌==◌, Bool, true, false, cond, List, [], ◌∷◌, length, map, take, Option, Some, None, inl, inr, refl, sym, subst, ap, ◌∙◌, arith}
-use Rattle.std.specs.Prelude.{◌⊎◌, Contains}
-use Rattle.std.specs.FinMap as finite
+use Rattle.std.proofs.Common.{◌≡◌, ℕ, ◌+◌, ◌==◌, Bool, true, false, List, [], ◌∷◌, map, Option, Some, None, refl, sym, ap, ◌∙◌, arith}
 use Rattle.std.specs.List.{AllByRecursion}
-use Rattle.std.proofs.lemmas.List.{take_all}
-use Rattle.caf_index.proofs.ContainsLemmas.{contains-cases, contains-none}
 use Rattle.caf_message.specs.declared.envelope.Plain.{Plain}
 use Rattle.caf_message.specs.declared.envelope.Plain.TheVariants as «plain»
 use Rattle.caf_message.specs.declared.envelope.Taken.{Taken}
-use Rattle.caf_carriers.proofs.CountLemmas.{sum_same, sum_plus, sum_one, self_same, same_number}
-use Rattle.caf_actor.specs.Answering.{is_asked}
-use Rattle.caf_actor.specs.PlainInput.{PlainInput}
+use Rattle.caf_carriers.proofs.CountLemmas.{same_number}
 use Rattle.caf_actor.specs.PlainPost.{PlainPost}
-use Rattle.caf_actor.specs.Record.{Kept, machine_of, IsAtRest, ends, joined, posted, sum_below}
-use Rattle.caf_actor.specs.Run.{Turn}
-use Rattle.caf_actor.specs.declared.origin.Origin.{Origin}
-use Rattle.caf_actor.specs.declared.snapshot.Snapshot.{Snapshot}
-use Rattle.caf_kinds.specs.FileChunks.{AreChunks, all_chunks}
-use Rattle.caf_kinds.specs.Kinds.{kind_rules}
 use Rattle.caf_kinds.specs.Setups.{setup_at}
-use Rattle.caf_kinds.specs.Starting.{who_of}
-use Rattle.caf_kinds.specs.Who.{Who}
-use Rattle.caf_kinds.specs.declared.contents.Chunk.{Chunk}
 use Rattle.caf_kinds.specs.declared.contents.Extent.{Extent}
-use Rattle.caf_kinds.specs.declared.kind.Kind.{Kind}
-use Rattle.caf_kinds.specs.declared.kind.Kind.TheVariants as kind
-use Rattle.caf_kinds.specs.declared.script.Step.{Step}
 use Rattle.caf_kinds.specs.declared.setup.KindName.{KindName}
 use Rattle.caf_kinds.specs.declared.setup.KindName.TheVariants as name
 use Rattle.caf_kinds.specs.declared.setup.Setup.{Setup}
-use Rattle.caf_kinds.specs.declared.source.Stage.{Stage}
-use Rattle.caf_kinds.specs.declared.source.Stage.TheVariants as stage
-use Rattle.caf_steady.specs.Outline.{Outline, Outlined, Bare, bare, outline_of}
-use Rattle.caf_steady.specs.Reading.{all_in_turn}
-use Rattle.caf_steady.specs.Steady.{Brings, reading}
-use Rattle.caf_pipeline.specs.Undisturbed.{Pipeline, IsSetUp, IsPipeline}
-use Rattle.caf_pipeline.specs.Contents.{told_to, asked_of, comes}
-use Rattle.caf_pipeline.specs.Flow.{IsUndisturbedRecord}
-use Rattle.caf_pipeline.specs.Indexed.{HasToldAll}
-use Rattle.caf_pipeline.proofs.BegunLemmas.{started as source_started}
-use Rattle.caf_pipeline.proofs.CollectedLemmas.{chunks, brought, steady, starts, begins_as, may_come}
-use Rattle.caf_pipeline.proofs.CollectorLemmas.{Collects}
-use Rattle.caf_pipeline.proofs.CountLemmas.{weigh_all}
-use Rattle.caf_pipeline.proofs.DoneLemmas.{src, up, who, begins_source, source_waits}
+use Rattle.caf_steady.specs.Outline.{Bare, bare}
+use Rattle.caf_pipeline.specs.Undisturbed.{IsSetUp}
 use Rattle.caf_pipeline.proofs.IssueLemmas.{IsLight, IsSentRight}
-use Rattle.caf_pipeline.proofs.ListLemmas.{one_of, all_of}
-use Rattle.caf_pipeline.proofs.PassingLemmas.{weight_as, weight_at, bare_weight, TellsOn, Passed, all_pass, lines_tells, relay_tells, counter_tells}
+use Rattle.caf_pipeline.proofs.PassingLemmas.{weight_as, weight_at, bare_weight}
 use Rattle.caf_pipeline.proofs.PlaceLemmas.{one_of_setups}
-use Rattle.caf_pipeline.proofs.ReplyLemmas.{IsReply, all_reply}
-use Rattle.caf_pipeline.proofs.RestLemmas.{told_all}
-use Rattle.caf_pipeline.proofs.ScriptLemmas.{mayAt, read_any, turns_brought}
-use Rattle.caf_pipeline.proofs.SenderLemmas.{turns_weigh}
-use Rattle.caf_pipeline.proofs.SourceWeightLemmas.{told_weight, done_weight, SourceWeighs, source_weighs}
-use Rattle.caf_pipeline.proofs.StartedLemmas.{started, first_sent, issued}
-use Rattle.caf_pipeline.proofs.TellerLemmas.{MeasuresFor, RelaysFor, CountsFor, lines_goes, relay_goes, counter_goes}
-use Rattle.caf_pipeline.proofs.TellingLemmas.{IsToldBare}
-use Rattle.caf_pipeline.proofs.UndisturbedLemmas.{told_start}
-use Rattle.caf_pipeline.proofs.WeightLemmas.{taken_weight, posted_weight, all_weighs}
+use Rattle.caf_pipeline.proofs.ReplyLemmas.{IsReply}
+use Rattle.caf_pipeline.proofs.WeightLemmas.{taken_weight, posted_weight}
 
 -- places of different kinds differ
 pub differ : (setups : List Setup) (j k : KindName) (ps qs : List ℕ) (p q : ℕ) → IsSetUp setups j ps p → IsSetUp setups k qs q → (j ≡ k → ⊥) → (p == q) ≡ false

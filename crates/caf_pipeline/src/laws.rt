@@ -1,4 +1,5 @@
 //! The laws of undisturbed runs. A law is the contract of a function that does nothing.
+ghost use Rattle.caf_pipeline.specs.Answered.{RestingRequestsAreAnswered, CompleteRequestsAreAnswered};
 ghost use Rattle.caf_pipeline.specs.BuiltIn.{BuiltInIsUndisturbed};
 ghost use Rattle.caf_pipeline.specs.Complete.{CompleteFilesAreIndexed};
 ghost use Rattle.caf_pipeline.specs.Contents.{PartsTakeTheirContents};
@@ -77,4 +78,16 @@ pub fn undisturbed_files_are_indexed()
 /// plain index of the files: what comes after Stop leaves it as it was.
 pub fn complete_files_are_indexed()
     ensures { CompleteFilesAreIndexed }
+{}
+
+/// Where a legal record over the opening of an undisturbed run is at rest, in which no tick and no Stop was taken, each
+/// request of the conductor was answered by a value: the one for the index by how many words and entries the plain
+/// index of the files has, and each one for totals by how many lines and bytes the files have.
+pub fn resting_requests_are_answered()
+    ensures { RestingRequestsAreAnswered }
+{}
+
+/// And so it is in a complete record: what comes after Stop leaves the replies as they were.
+pub fn complete_requests_are_answered()
+    ensures { CompleteRequestsAreAnswered }
 {}
