@@ -43,8 +43,10 @@ use Rattle.caf_pipeline.specs.Undisturbed.{Pipeline, IsPlainScript}
 use Rattle.caf_pipeline.specs.Answered.{HasAnswers, AreAnswered, RestingRequestsAreAnswered}
 use Rattle.caf_pipeline.specs.Contents.{comes}
 use Rattle.caf_pipeline.specs.Flow.{IsUndisturbedRecord}
-use Rattle.caf_pipeline.proofs.AnsweringLemmas.{IsAsked, content_of_question, IsAskedSo, IsRight, Collecting, IsKept, IsReplied, AllSteps, all_steps, all_replied}
-use Rattle.caf_pipeline.proofs.AnsweringLemmas as answering
+use Rattle.caf_pipeline.proofs.AnsweringLemmas.{AllSteps, all_steps, all_replied}
+use Rattle.caf_pipeline.proofs.CollectingLemmas.{IsRight, Collecting, IsReplied}
+use Rattle.caf_pipeline.proofs.QuestionLemmas.{IsAsked, IsAskedSo}
+use Rattle.caf_pipeline.proofs.CollectingLemmas as collecting
 use Rattle.caf_pipeline.proofs.ArrivalLemmas.{arrives, all_turns_have}
 use Rattle.caf_pipeline.proofs.AwaitingLemmas.{IsRightResponse, right_reply, AllSettled, all_settle, waiting_of, asked_above}
 use Rattle.caf_pipeline.proofs.BalanceLemmas.{SentBy, balances, collector_took}
@@ -222,7 +224,7 @@ module _ (setups : List Setup) (steps : List Step) (files : List (List ℕ)) (ti
       ]
       by x (inr (inl second)) =
           let b = as_content setups cs p.collector up is.undisturbed.actors.collector.at Collects
-          (answering.goes setups cs each is.indexable.few_chunks p.collector up is.undisturbed.actors.collector.at is.undisturbed.actors.collector.kind_is lines bytes index) e
+          (collecting.goes setups cs each is.indexable.few_chunks p.collector up is.undisturbed.actors.collector.at is.undisturbed.actors.collector.kind_is lines bytes index) e
           (one_of (Brings (comes setups cs p.collector)) turns e (brings_at p.collector) has) in
           let bad : true ≡ false = sym second.1.response ∙ ap (λ (m : Mid). m.response) x.mid ∙ b.no_reply in
           cc

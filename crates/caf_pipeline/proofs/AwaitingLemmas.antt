@@ -34,7 +34,7 @@ use Rattle.caf_steady.specs.Outline.{Outlined, Bare, with_outline, send_outputs}
 use Rattle.caf_steady.specs.Reading.{react, resolve, read, read_one, read_body}
 use Rattle.caf_steady.specs.Steady.{Brings}
 use Rattle.caf_pipeline.specs.Contents.{comes}
-use Rattle.caf_pipeline.proofs.AnsweringLemmas.{IsAsked}
+use Rattle.caf_pipeline.proofs.QuestionLemmas.{IsAsked}
 use Rattle.caf_pipeline.proofs.ConductedLemmas.{IsConducted, without_request, one_conducted, all_conducted}
 use Rattle.caf_pipeline.proofs.HoldLemmas.{Picked, picked, pick_some}
 use Rattle.caf_pipeline.proofs.IdleLemmas.{goes_nowhere}

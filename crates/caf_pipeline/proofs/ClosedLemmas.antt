@@ -24,7 +24,7 @@ use Rattle.caf_pipeline.specs.Answered.{AreAnswered, CompleteRequestsAreAnswered
 use Rattle.caf_pipeline.specs.Complete.{IsCompleteRecord}
 use Rattle.caf_pipeline.specs.Flow.{IsUndisturbedRecord}
 use Rattle.caf_pipeline.proofs.AnsweredLemmas.{later, lines, bytes, index, first_sent_by, settles, waits_no_more, replies_at_end, conductor_stands, has_answers, answered}
-use Rattle.caf_pipeline.proofs.AnsweringLemmas.{counted_has}
+use Rattle.caf_pipeline.proofs.QuestionLemmas.{counted_has}
 use Rattle.caf_pipeline.proofs.AwaitingLemmas.{IsWaitingRight}
 use Rattle.caf_pipeline.proofs.CompleteLemmas.{no_second, up_to_stop}
 use Rattle.caf_pipeline.proofs.CutLemmas.{AreParted, parted, kept_early, early_rest, winds_down}

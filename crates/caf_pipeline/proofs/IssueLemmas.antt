@@ -28,7 +28,7 @@ use Rattle.caf_steady.specs.Outline.{Outlined, Bare, with_outline, send, request
 use Rattle.caf_pipeline.specs.Undisturbed.{Pipeline}
 use Rattle.caf_pipeline.specs.Parts.{start_content}
 use Rattle.caf_pipeline.specs.Sent.{IsTell, IsRequest, AreTotals, AreSent}
-use Rattle.caf_pipeline.proofs.AnsweringLemmas.{IsAsked, content_of_question}
+use Rattle.caf_pipeline.proofs.QuestionLemmas.{IsAsked, content_of_question}
 use Rattle.caf_pipeline.proofs.AwaitingLemmas.{IsWaitingRight}
 use Rattle.caf_pipeline.proofs.PassingLemmas.{kind_weight}
 use Rattle.caf_pipeline.proofs.PlayLemmas.{types_for}

@@ -44,6 +44,10 @@ pub mod PassingLemmas
 pub mod SourceWeightLemmas
 pub mod HoldLemmas
 pub mod TallyLemmas
+pub mod QuestionLemmas
+pub mod CollectingLemmas
+pub mod ToldLemmas
+pub mod HeldLemmas
 pub mod AnsweringLemmas
 pub mod PlayLemmas
 pub mod AwaitingLemmas

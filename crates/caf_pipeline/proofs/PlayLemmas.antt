@@ -23,7 +23,7 @@ use Rattle.caf_kinds.specs.declared.setup.Setup.{Setup}
 use Rattle.caf_signature.specs.Interface.{result_for}
 use Rattle.caf_pipeline.specs.Undisturbed.{Pipeline, IsPipeline, IsRequested, IsPlainScript}
 use Rattle.caf_pipeline.specs.Sent.{summary_types, total_types}
-use Rattle.caf_pipeline.proofs.AnsweringLemmas.{IsAsked}
+use Rattle.caf_pipeline.proofs.QuestionLemmas.{IsAsked}
 use Rattle.caf_pipeline.proofs.SentLemmas.{NeverWaits, answered}
 
 -- ---- lists with one item set

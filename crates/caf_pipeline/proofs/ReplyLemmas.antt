@@ -41,7 +41,8 @@ use Rattle.caf_steady.specs.Reading.{content, read, read_one}
 use Rattle.caf_steady.specs.Steady.{Brings}
 use Rattle.caf_pipeline.specs.Parts.{index_content, totals_content, told_extent, told_finish}
 use Rattle.caf_pipeline.specs.Contents.{counted, told_to, asked_of, comes_as, comes}
-use Rattle.caf_pipeline.proofs.AnsweringLemmas.{IsBrought, content_of_question, goes, told_answers, question_reads}
+use Rattle.caf_pipeline.proofs.CollectingLemmas.{IsBrought, goes, told_answers, question_reads}
+use Rattle.caf_pipeline.proofs.QuestionLemmas.{content_of_question}
 use Rattle.caf_pipeline.proofs.ClassLemmas.{at_content}
 use Rattle.caf_pipeline.proofs.CollectorLemmas.{Collects}
 use Rattle.caf_pipeline.proofs.FlowLemmas.{BringsContent, as_content, one_reads, one_stays}
