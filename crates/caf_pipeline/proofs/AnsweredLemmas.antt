@@ -66,31 +66,8 @@ use Rattle.caf_pipeline.proofs.StartedLemmas.{started, first_sent, issued, await
 use Rattle.caf_pipeline.proofs.TallyLemmas.{final_answer, came, body_weight, none_each, one_each, lines_each, bytes_each, Tallied}
 use Rattle.caf_pipeline.proofs.UndisturbedLemmas.{undisturbed_files_are_indexed}
 use Rattle.caf_pipeline.proofs.WeightLemmas.{taken_weight}
-
-each_of : {A : Type 0} (P : A → Type 0) (xs : List A) → ((x : A) → Contains xs x → P x) → AllByRecursion P xs
-each_of P [] each = tt
-each_of P (x ∷ xs) each = (each x (contains-here x xs), each_of P xs (λ y has. each y (contains-later x y xs has)))
-
-weigh_same : {A : Type 0} (f g : A → ℕ) (xs : List A) → ((x : A) → f x ≡ g x) → weigh_all f xs ≡ weigh_all g xs
-weigh_same f g [] same = refl
-weigh_same f g (x ∷ xs) same = let one = same x in let rest = weigh_same f g xs same in omega (arith, one, rest)
-
-weigh_none : {A : Type 0} (xs : List A) → weigh_all (λ x. 0) xs ≡ 0
-weigh_none [] = refl
-weigh_none (x ∷ xs) = let rest = weigh_none xs in omega (arith, rest)
-
--- the same weights at the collector
-came_so : (setups : List Setup) (place : ℕ) (s : Setup) → setup_at setups place ≡ Some s → s.kind ≡ name.Collector → (a f : ℕ) (h : Extent → ℕ) (es : List Taken) → taken_weight (weight_at a f h setups) place es ≡ came a f h es
-came_so setups place s at is a f h [] = refl
-came_so setups place s at is a f h (e ∷ es) =
-    let one : weight_at a f h setups place e.body ≡ body_weight a f h e.body = ap (λ (o : Option Setup). weight_as a f h o e.body) at ∙ by e.body in
-    let rest = came_so setups place s at is a f h es in
-    omega (arith, one, rest)
-  where
-    by : (b : Plain) → weight_as a f h (Some s) b ≡ body_weight a f h b
-    by («plain».Content words) = ap (λ (k : KindName). kind_weight a f h k words) is
-    by («plain».Failure sec) = refl
-    by («plain».System what) = refl
+use Rattle.caf_pipeline.proofs.CountedLemmas as counted
+use Rattle.caf_pipeline.proofs.CountedLemmas.{each_of, IsFrom, taken_from, steps_of, all_right, index_is, collector_within, 0_within}
 
 plain_long : (p : Pipeline) (steps : List Step) → IsPlainScript p steps → 2 ≤ length steps
 plain_long p [] plays = absurd plays
@@ -98,164 +75,35 @@ plain_long p (first ∷ []) plays = absurd plays
 plain_long p (first ∷ second ∷ others) plays = omega arith
 
 module _ (setups : List Setup) (steps : List Step) (files : List (List ℕ)) (ticks : ℕ) (k : Kept (Snapshot Kind)) (ts : List Turn) (is : IsUndisturbedRecord setups steps files ticks k ts) (rest : IsAtRest (machine_of kind_rules) k) where
-  abbrev pub p : Pipeline
-  p = is.undisturbed.pipeline
+  abbrev p : Pipeline
+  p = counted.p setups steps files ticks k ts is rest
 
   abbrev up : Setup
-  up = is.undisturbed.actors.collector.setup
+  up = counted.up setups steps files ticks k ts is rest
 
   abbrev cs : List Chunk
-  cs = all_chunks files
+  cs = counted.cs setups steps files ticks k ts is rest
 
-  abbrev each : AreChunks cs
-  each = chunks setups steps files ticks k ts is
-
-  abbrev pub turns : List Taken
-  turns = all_in_turn (k.journal p.collector)
+  abbrev turns : List Taken
+  turns = counted.turns setups steps files ticks k ts is rest
 
   abbrev sent_of : ℕ → List Bare
-  sent_of q = (reading kind_rules (k.start q) (k.journal q)).sent
+  sent_of = counted.sent_of setups steps files ticks k ts is rest
 
   abbrev pub lines : ℕ
-  lines = sum_by (λ bytes. length (lines_of bytes)) files
+  lines = counted.lines setups steps files ticks k ts is rest
 
   abbrev pub bytes : ℕ
-  bytes = sum_by length files
+  bytes = counted.bytes setups steps files ticks k ts is rest
 
   abbrev pub index : Entries
-  index = with_entries finite.empty (told_entries turns)
-
-  -- ---- what the collector has to count
-
-  took : (a f : ℕ) (h : Extent → ℕ) → came a f h turns ≡ weigh_all (λ c. h (extent_of c) + a) cs + f
-  took a f h = sym (came_so setups p.collector up is.undisturbed.actors.collector.at is.undisturbed.actors.collector.kind_is a f h turns) ∙ collector_took setups steps files ticks k ts is rest a f h
-
-  first_tallied : Tallied (length cs) lines bytes index (record { postings = 0; extents = 0; lines = 0; bytes = 0; chunks = None }) finite.empty turns
-  first_tallied =
-      let posts = took 1 0 none_each in
-      let extents = took 0 0 one_each in
-      let ls = took 0 0 lines_each in
-      let bs = took 0 0 bytes_each in
-      let fs = took 0 1 none_each in
-      let one = weigh_one cs in
-      let none : weigh_all (λ (c : Chunk). 0) cs ≡ 0 = weigh_none cs in
-      let lines_sum = weigh_same (λ (c : Chunk). length (lines_of c.bytes) + 0) (λ c. length (lines_of c.bytes)) cs (λ c. omega arith) ∙ lines_of_all files in
-      let bytes_sum = weigh_same (λ (c : Chunk). length c.bytes + 0) (λ c. length c.bytes) cs (λ c. omega arith) ∙ bytes_of_all files in
-      record {
-        postings_are = omega (arith, posts, one);
-        extents_are = omega (arith, extents, one);
-        lines_are = omega (arith, ls, lines_sum);
-        bytes_are = omega (arith, bs, bytes_sum);
-        finish_is = inl (refl, omega (arith, fs, none));
-        index_is = refl;
-      }
-
-  -- ---- the collector
-
-  holds_none : (k.start p.collector).holds ≡ []
-  holds_none =
-      let one = one_of_setups setups p.collector up is.undisturbed.actors.collector.at in
-      let low = one.from_1 in
-      let stand = stands setups p steps files is.undisturbed.actors (p.collector - 1) up one.got in
-      let here : suc (p.collector - 1) ≡ p.collector = omega (arith, low) in
-      let start = is.opens.start (suc (p.collector - 1)) (actor_at setups steps (1 + (p.collector - 1)) up stand.own) stand.there in
-      ap (λ (q : ℕ). (k.start q).holds) (sym here) ∙ ap (λ (x : Snapshot Kind). x.holds) start
-
-  abbrev CollectingAt : Outlined Kind → List Taken → Type 0
-  CollectingAt = Collecting setups cs each is.indexable.few_chunks p.collector up is.undisturbed.actors.collector.at is.undisturbed.actors.collector.kind_is lines bytes index
-
-  abbrev first_at : Outlined Kind
-  first_at = record { outline = outline_of (k.start p.collector); sent = [] }
-
-  begins : CollectingAt first_at turns
-  begins = record {
-    collector = _;
-    is = begins_as setups steps files ticks k ts is p.collector up name.Collector is.undisturbed.actors.collector.at is.undisturbed.actors.collector.kind_is;
-    matches = λ m. ap (λ (hs : List Promised). count_by (is_of 0 m) hs) holds_none;
-    held = tt;
-    waits = tt;
-    right = tt;
-    tallied = first_tallied;
-  }
-
-  collector_within : p.collector < k.places
-  collector_within = (starts setups steps files ticks k ts is p.collector up is.undisturbed.actors.collector.at).within
-
-  0_within : 0 < k.places
-  0_within = let places = is.opens.places in omega (arith, places)
-
-  brings_at : (q : ℕ) → AllByRecursion (Brings (comes setups cs q)) (all_in_turn (k.journal q))
-  brings_at q = turns_brought setups steps files ticks k ts is q (k.journal q) (brought setups steps files ticks k ts is q)
-
-  -- who sent what a place took
-  pub record IsFrom (b : ℕ) (e : Taken) : Type 0 where
-    pub place : ℕ
-    pub bare : Bare
-    pub is_sent : Contains (sent_of place) bare
-    pub mid : bare.mid ≡ e.mid
-    pub body : bare.body ≡ e.body
-    pub sends : SentBy setups steps files ticks k ts is rest 0 0 none_each place bare
-
-  taken_from : (b : ℕ) (e : Taken) → Contains (joined (k.journal b)) e → (e ≡ start_envelope) ⊎ IsFrom b e
-  taken_from b e has = elim (from_where (machine_of kind_rules) ticks k is.legal rest is.silent b e has) [
-    | inl start ↦ inl start
-    | inr sent ↦
-        (let there = subst (λ (bs : List Bare). Contains bs sent.bare) (read_any setups steps files ticks k ts is sent.place sent.below).sent sent.is_sent in
-        inr (record {
-          place = sent.place;
-          bare = sent.bare;
-          is_sent = there;
-          mid = sent.mid;
-          body = sent.body;
-          sends = one_of (SentBy setups steps files ticks k ts is rest 0 0 none_each sent.place) (sent_of sent.place) sent.bare (balances setups steps files ticks k ts is rest 0 0 none_each sent.place sent.below).sends there;
-        }))
-  ]
-
-  no_number : (e : Taken) → e.mid.number ≡ 0 → is_asked (origin_of e) ≡ true → ⊥
-  no_number e none asked = let bad : false ≡ true = sym (ap (λ n. nat_lt 0 n) none) ∙ asked in cc
-
-  asked_so : (e : Taken) → Contains turns e → IsAskedSo e
-  asked_so e has = go (taken_from p.collector e (all_turns_had (k.journal p.collector) e has))
-    where
-      by : (x : IsFrom p.collector e) → SentBy setups steps files ticks k ts is rest 0 0 none_each x.place x.bare → IsAskedSo e
-      by x (inl first) = elim first.1.asks [
-        | inl none ↦ λ yes. absurd (no_number e (ap (λ (m : Mid). m.number) (sym x.mid) ∙ none) yes)
-        | inr it ↦ λ yes. (it.0, subst (λ (m : Mid). IsAsked m.number it.0) x.mid it.1, sym x.body ∙ first.1.body ∙ ap «plain».Content it.2)
-      ]
-      by x (inr (inl second)) =
-          let b = as_content setups cs p.collector up is.undisturbed.actors.collector.at Collects
-          (collecting.goes setups cs each is.indexable.few_chunks p.collector up is.undisturbed.actors.collector.at is.undisturbed.actors.collector.kind_is lines bytes index) e
-          (one_of (Brings (comes setups cs p.collector)) turns e (brings_at p.collector) has) in
-          let bad : true ≡ false = sym second.1.response ∙ ap (λ (m : Mid). m.response) x.mid ∙ b.no_reply in
-          cc
-      by x (inr (inr told)) = λ yes. absurd (no_number e (ap (λ (m : Mid). m.number) (sym x.mid) ∙ told.number) yes)
-
-      go : (e ≡ start_envelope) ⊎ IsFrom p.collector e → IsAskedSo e
-      go (inl start) = λ yes. absurd (no_number e (ap (λ (x : Taken). x.mid.number) start) yes)
-      go (inr x) = by x x.sends
+  index = counted.index setups steps files ticks k ts is rest
 
   abbrev collected : Outlined Kind
-  collected = reading kind_rules (k.start p.collector) (k.journal p.collector)
-
-  steps_of : AllSteps setups cs each is.indexable.few_chunks p.collector up is.undisturbed.actors.collector.at is.undisturbed.actors.collector.kind_is lines bytes index first_at turns collected
-  steps_of = all_steps setups cs each is.indexable.few_chunks p.collector up is.undisturbed.actors.collector.at is.undisturbed.actors.collector.kind_is lines bytes index first_at turns (brings_at p.collector) (each_of IsAskedSo turns asked_so) begins
+  collected = counted.collected setups steps files ticks k ts is rest
 
   abbrev RightAt : Bare → Type 0
-  RightAt = IsRight setups cs each is.indexable.few_chunks p.collector up is.undisturbed.actors.collector.at is.undisturbed.actors.collector.kind_is lines bytes index
-
-  all_right : AllByRecursion RightAt collected.sent
-  all_right = steps_of.collecting.right
-
-  -- ---- its index
-
-  index_is : index ≡ plain_index_of files
-  index_is =
-      let end = steps_of.collecting in
-      let has_read = read_any setups steps files ticks k ts is p.collector collector_within in
-      let same : index_of (ends (machine_of kind_rules) k p.collector).behavior ≡ Some end.collector.index = ap (λ (o : Outline Kind). index_of o.behavior) has_read.stands ∙ ap index_of end.is in
-      let both : Some end.collector.index ≡ Some (plain_index_of files) = sym same ∙ undisturbed_files_are_indexed setups steps files ticks k ts is rest in
-      let one : end.collector.index ≡ plain_index_of files = cc in
-      sym end.tallied.index_is ∙ one
+  RightAt = counted.RightAt setups steps files ticks k ts is rest
 
   -- ---- what the conductor takes
 
@@ -272,16 +120,16 @@ module _ (setups : List Setup) (steps : List Step) (files : List (List ℕ)) (ti
   Responds = IsRightResponse (length steps) lines bytes index first_sent_by
 
   responds : (e : Taken) → Contains later e → Responds e
-  responds e has = go (taken_from 0 e (begun.had e has))
+  responds e has = go (taken_from setups steps files ticks k ts is rest 0 e (begun.had e has))
     where
-      by : (x : IsFrom 0 e) → SentBy setups steps files ticks k ts is rest 0 0 none_each x.place x.bare → Responds e
+      by : (x : IsFrom setups steps files ticks k ts is rest 0 e) → SentBy setups steps files ticks k ts is rest 0 0 none_each x.place x.bare → Responds e
       by x (inl first) = record {
         value = λ words body response. (let bad : false ≡ true = sym first.1.response ∙ ap (λ (m : Mid). m.response) x.mid ∙ response in absurd cc);
         no_error = λ sec body. (let bad : «plain».Content first.1.words ≡ «plain».Failure sec = sym first.1.body ∙ x.body ∙ body in cc);
       }
       by x (inr (inl second)) =
           let there = subst (λ (q : ℕ). Contains (sent_of q) x.bare) second.0 x.is_sent in
-          let right = one_of RightAt collected.sent x.bare all_right there in
+          let right = one_of RightAt collected.sent x.bare (all_right setups steps files ticks k ts is rest) there in
           record {
             value = λ words body response.
                 let both : «plain».Content words ≡ «plain».Content _ = sym body ∙ sym x.body ∙ right.body in
@@ -296,7 +144,7 @@ module _ (setups : List Setup) (steps : List Step) (files : List (List ℕ)) (ti
         no_error = λ sec body. (let bad : «plain».Content told.words ≡ «plain».Failure sec = sym told.body ∙ x.body ∙ body in cc);
       }
 
-      go : (e ≡ start_envelope) ⊎ IsFrom 0 e → Responds e
+      go : (e ≡ start_envelope) ⊎ IsFrom setups steps files ticks k ts is rest 0 e → Responds e
       go (inl start) = record {
         value = λ words body response. (let bad : «plain».System notice.Start ≡ «plain».Content words = ap (λ (x : Taken). x.body) (sym start) ∙ body in absurd cc);
         no_error = λ sec body. (let bad : «plain».System notice.Start ≡ «plain».Failure sec = ap (λ (x : Taken). x.body) (sym start) ∙ body in cc);
@@ -329,7 +177,7 @@ module _ (setups : List Setup) (steps : List Step) (files : List (List ℕ)) (ti
       request = let one = above in (issued setups steps files ticks k ts is lines bytes index).asks m one (omega (arith, low))
 
       at_collector : (e : Taken) × Contains (joined (k.journal request.bare.to)) e × (e.mid ≡ request.bare.mid) × (e.body ≡ request.bare.body)
-      at_collector = sent_arrives 0 request.bare 0_within (subst (λ (bs : List Bare). Contains bs request.bare) (sym (first_sent setups steps files ticks k ts is rest)) request.is_sent)
+      at_collector = sent_arrives 0 request.bare (0_within setups steps files ticks k ts is rest) (subst (λ (bs : List Bare). Contains bs request.bare) (sym (first_sent setups steps files ticks k ts is rest)) request.is_sent)
 
       number_is : at_collector.0.mid.number ≡ m
       number_is = ap (λ (x : Mid). x.number) (at_collector.2 ∙ request.mid_is)
@@ -340,16 +188,16 @@ module _ (setups : List Setup) (steps : List Step) (files : List (List ℕ)) (ti
       is_request : is_asked (origin_of at_collector.0) ≡ true
       is_request = let one = above in ap (λ n. nat_lt 0 n) number_is ∙ lt-ltb 0 m (omega (arith, one))
 
-      replied : IsReplied setups cs each is.indexable.few_chunks p.collector up is.undisturbed.actors.collector.at is.undisturbed.actors.collector.kind_is lines bytes index at_collector.0.mid.number collected.sent
+      replied : IsReplied setups cs (counted.each setups steps files ticks k ts is rest) is.indexable.few_chunks p.collector up is.undisturbed.actors.collector.at is.undisturbed.actors.collector.kind_is lines bytes index at_collector.0.mid.number collected.sent
       replied =
-          all_replied setups cs each is.indexable.few_chunks p.collector up is.undisturbed.actors.collector.at is.undisturbed.actors.collector.kind_is lines bytes index collected steps_of.collecting at_collector.0.mid.number
-          (steps_of.asks at_collector.0 taken_there is_request)
+          all_replied setups cs (counted.each setups steps files ticks k ts is rest) is.indexable.few_chunks p.collector up is.undisturbed.actors.collector.at is.undisturbed.actors.collector.kind_is lines bytes index collected (steps_of setups steps files ticks k ts is rest).collecting at_collector.0.mid.number
+          ((steps_of setups steps files ticks k ts is rest).asks at_collector.0 taken_there is_request)
 
       right : RightAt replied.0
-      right = one_of RightAt collected.sent replied.0 all_right replied.1
+      right = one_of RightAt collected.sent replied.0 (all_right setups steps files ticks k ts is rest) replied.1
 
       at_conductor : (e : Taken) × Contains (joined (k.journal replied.0.to)) e × (e.mid ≡ replied.0.mid) × (e.body ≡ replied.0.body)
-      at_conductor = sent_arrives p.collector replied.0 collector_within replied.1
+      at_conductor = sent_arrives p.collector replied.0 (collector_within setups steps files ticks k ts is rest) replied.1
 
       answered_none : waiting_of (length steps) lines bytes index first_sent_by m (read kind_rules (started setups steps files ticks k ts is) later) ≡ 0
       answered_none = by (begun.has at_conductor.0 (subst (λ (r : ℕ). Contains (joined (k.journal r)) at_conductor.0) right.to at_conductor.1))
@@ -376,7 +224,7 @@ module _ (setups : List Setup) (steps : List Step) (files : List (List ℕ)) (ti
   replies_at_end = settles.awaiting.conducting.script.replies
 
   pub conductor_stands : outline_of (ends (machine_of kind_rules) k 0) ≡ (read kind_rules (started setups steps files ticks k ts is) later).outline
-  conductor_stands = (read_any setups steps files ticks k ts is 0 0_within).stands ∙ ap (λ (o : Outlined Kind). o.outline) begun.reads
+  conductor_stands = (read_any setups steps files ticks k ts is 0 (0_within setups steps files ticks k ts is rest)).stands ∙ ap (λ (o : Outlined Kind). o.outline) begun.reads
 
   script_long : 2 ≤ length steps
   script_long = plain_long p steps is.undisturbed.plays
@@ -384,7 +232,7 @@ module _ (setups : List Setup) (steps : List Step) (files : List (List ℕ)) (ti
   pub has_answers : HasAnswers steps files replies_at_end
   has_answers = record {
     first = settles.awaiting.first;
-    index = settled_at 1 question.Index (inl (refl, refl)) (let long = script_long in omega (arith, long)) ∙ ap (λ x. Some (right_reply (length steps) lines bytes x first_sent_by question.Index)) index_is;
+    index = settled_at 1 question.Index (inl (refl, refl)) (let long = script_long in omega (arith, long)) ∙ ap (λ x. Some (right_reply (length steps) lines bytes x first_sent_by question.Index)) (index_is setups steps files ticks k ts is rest);
     totals = λ m above low. settled_at m question.Totals (inr (above, refl)) low;
   }
 

@@ -57,5 +57,6 @@ pub mod ReplyLemmas
 pub mod StartedLemmas
 pub mod TotalLemmas
 pub mod BalanceLemmas
+pub mod CountedLemmas
 pub mod AnsweredLemmas
 pub mod ClosedLemmas
