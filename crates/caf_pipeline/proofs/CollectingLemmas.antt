@@ -1,56 +1,41 @@
 -- A collector on the way to its final answers, and what content makes of it.
-use Rattle.std.proofs.Common.{◌≡◌, ℕ, ◌+◌, ◌≤◌, ◌<◌, ◌==◌, ◌&&◌, Bool, true, false, List, [], ◌∷◌, ◌++◌, length, map, count_by, Option, Some, inl, inr, refl, sym, subst, ap, ◌∙◌, arith}
-use Rattle.std.specs.Prelude.{◌^◌, ◌⊎◌, not, bytes_eq, Contains, if◌then◌else◌}
-use Rattle.std.specs.List.{AllByRecursion, filter}
-use Rattle.std.proofs.lemmas.Bool.Decides.{nat_tests}
-use Rattle.std.proofs.lemmas.List.Elements.{Contains-append_left, Contains-append_cases, Contains-push}
+use Rattle.std.proofs.Common.{◌≡◌, ℕ, ◌<◌, true, false, List, [], ◌∷◌, ◌++◌, length, count_by, Option, Some, refl, sym, ap, ◌∙◌}
+use Rattle.std.specs.Prelude.{◌^◌, ◌⊎◌, Contains, if◌then◌else◌}
+use Rattle.std.specs.List.{AllByRecursion}
 use Rattle.caf_index.specs.Index.{Entries}
-use Rattle.caf_index.proofs.ContainsLemmas.{contains-none, contains-here, contains-later, contains-cases, from-map}
-use Rattle.caf_mailbox.proofs.NextLemmas.{all_append, all_filter}
 use Rattle.caf_message.specs.declared.envelope.Plain.TheVariants as «plain»
 use Rattle.caf_message.specs.declared.envelope.Taken.{Taken}
-use Rattle.caf_response.specs.Holds.{is_of, is_before, with_hold}
-use Rattle.caf_carriers.proofs.CountLemmas.{one, count-cons, count-append, count-put, count-parts, self_same, same_number}
-use Rattle.caf_actor.specs.Answering.{is_asked, origin_of, promised_to}
+use Rattle.caf_response.specs.Holds.{is_of}
+use Rattle.caf_actor.specs.Answering.{is_asked, origin_of}
 use Rattle.caf_actor.specs.PlainInput.{PlainInput, Content}
 use Rattle.caf_actor.specs.PlainReaction as answer
 use Rattle.caf_actor.specs.PlainReaction.{PlainAnswer, PlainReaction}
 use Rattle.caf_actor.specs.declared.origin.Origin.{Origin}
-use Rattle.caf_kinds.specs.Collector.{is_answerable, reply, delivers, with_postings, with_extent, with_finish, in_tally, on_question}
-use Rattle.caf_kinds.specs.Counter.{postings_at}
-use Rattle.caf_kinds.specs.FileChunks.{IsChunk, AreChunks}
+use Rattle.caf_kinds.specs.Collector.{is_answerable, reply, delivers, on_question}
+use Rattle.caf_kinds.specs.FileChunks.{AreChunks}
 use Rattle.caf_kinds.specs.Keeping.{on_if}
 use Rattle.caf_kinds.specs.Kinds.{kind_rules, reacted, as_kind}
-use Rattle.caf_kinds.specs.Lines.{extent_of}
 use Rattle.caf_kinds.specs.Questions.{held as held_as}
 use Rattle.caf_kinds.specs.Reacting.{Reacted, answers, quiet}
-use Rattle.caf_kinds.specs.Relay.{lowered}
 use Rattle.caf_kinds.specs.Setups.{setup_at}
-use Rattle.caf_kinds.specs.Source.{finish_of}
 use Rattle.caf_kinds.specs.declared.collector.Collector.{Collector}
 use Rattle.caf_kinds.specs.declared.contents.Chunk.{Chunk}
 use Rattle.caf_kinds.specs.declared.kind.Kind.{Kind}
 use Rattle.caf_kinds.specs.declared.kind.Kind.TheVariants as kind
 use Rattle.caf_kinds.specs.declared.questions.HeldQuestion.{HeldQuestion}
 use Rattle.caf_kinds.specs.declared.questions.Question.{Question}
-use Rattle.caf_kinds.specs.declared.questions.Question.TheVariants as question
 use Rattle.caf_kinds.specs.declared.setup.KindName.TheVariants as name
 use Rattle.caf_kinds.specs.declared.setup.Setup.{Setup}
 use Rattle.caf_steady.specs.Outline.{Outline, Outlined, Bare, with_outline, send_outputs}
 use Rattle.caf_steady.specs.Outline as outline
-use Rattle.caf_steady.specs.Reading.{react, content, read, read_one}
-use Rattle.caf_steady.specs.Steady.{Brings}
-use Rattle.caf_pipeline.specs.Parts.{index_content, totals_content, told_extent, told_finish}
-use Rattle.caf_pipeline.specs.Contents.{counted, told_to, asked_of, comes_as, comes}
-use Rattle.caf_pipeline.proofs.ClassLemmas.{at_content, Goes}
+use Rattle.caf_steady.specs.Reading.{react, content}
+use Rattle.caf_pipeline.specs.Contents.{told_to, asked_of, comes_as, comes}
+use Rattle.caf_pipeline.proofs.ClassLemmas.{Goes}
 use Rattle.caf_pipeline.proofs.CollectorLemmas.{Collects, collector_goes}
-use Rattle.caf_pipeline.proofs.FlowLemmas.{BringsContent, as_content, one_reads}
-use Rattle.caf_pipeline.proofs.HoldLemmas.{has_asked, IsReplyTo, delivery, Delivers, deliver_all}
-use Rattle.caf_pipeline.proofs.ListLemmas.{one_of, all_of}
-use Rattle.caf_pipeline.proofs.PartLemmas.{hands_on}
-use Rattle.caf_pipeline.proofs.ReadLemmas.{outputs_same}
-use Rattle.caf_pipeline.proofs.TallyLemmas.{Tallied, final_answer, answers_right, all_answerable, at_nothing, at_postings, at_extent, at_finish}
-use Rattle.caf_pipeline.proofs.QuestionLemmas.{filter_passes, counted_has, from_not, IsAsked, content_of_question, IsAskedSo, same_question, held_in}
+use Rattle.caf_pipeline.proofs.HoldLemmas.{has_asked}
+use Rattle.caf_pipeline.proofs.ListLemmas.{all_of}
+use Rattle.caf_pipeline.proofs.TallyLemmas.{Tallied, final_answer}
+use Rattle.caf_pipeline.proofs.QuestionLemmas.{IsAsked, held_in}
 
 module _ (setups : List Setup) (cs : List Chunk) (chunks : AreChunks cs) (few : length cs < 2 ^ 64) (place : ℕ) (s : Setup) (there : setup_at setups place ≡ Some s) (kind_is : s.kind ≡ name.Collector)
     (lines bytes : ℕ) (index : Entries) where

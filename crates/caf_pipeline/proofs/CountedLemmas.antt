@@ -1,69 +1,60 @@
 -- What the collector of an undisturbed run has counted and answered, where all is at rest.
-use Rattle.std.proofs.Common.{◌≡◌, ℕ, suc, ◌+◌, ◌-◌, ◌≤◌, ◌<◌, nat_lt, true, false, List, [], ◌∷◌, length, count_by, Option, Some, None, inl, inr, refl, sym, subst, ap, ◌∙◌, arith}
-use Rattle.std.specs.Prelude.{◌⊎◌, Contains, slice_get}
+use Rattle.std.proofs.Common.{◌≡◌, ℕ, suc, ◌+◌, ◌-◌, ◌<◌, nat_lt, true, false, List, [], ◌∷◌, length, count_by, Option, Some, None, inl, inr, refl, sym, subst, ap, ◌∙◌, arith}
+use Rattle.std.specs.Prelude.{◌⊎◌, Contains}
 use Rattle.std.specs.FinMap as finite
 use Rattle.std.specs.List.{AllByRecursion, sum_by}
-use Rattle.std.proofs.lemmas.Bool.{lt-ltb}
 use Rattle.caf_index.specs.Chunks.{lines_of}
 use Rattle.caf_index.specs.Filled.{with_entries}
 use Rattle.caf_index.specs.Index.{Entries}
 use Rattle.caf_index.specs.PlainIndex.{plain_index_of}
-use Rattle.caf_index.proofs.ContainsLemmas.{contains-here, contains-later, from-map}
+use Rattle.caf_index.proofs.ContainsLemmas.{contains-here, contains-later}
 use Rattle.caf_message.specs.Envelope.{start_envelope}
 use Rattle.caf_message.specs.declared.envelope.Plain.{Plain}
 use Rattle.caf_message.specs.declared.envelope.Plain.TheVariants as «plain»
 use Rattle.caf_message.specs.declared.envelope.Taken.{Taken}
 use Rattle.caf_types.specs.declared.notice.Mid.{Mid}
-use Rattle.caf_types.specs.declared.notice.Notice.TheVariants as notice
 use Rattle.caf_actor.specs.Answering.{is_asked, origin_of}
-use Rattle.caf_actor.specs.Record.{Kept, machine_of, IsAtRest, ends, joined, posted}
+use Rattle.caf_actor.specs.Record.{Kept, machine_of, IsAtRest, ends, joined}
 use Rattle.caf_actor.specs.Run.{Turn}
 use Rattle.caf_actor.specs.declared.snapshot.Snapshot.{Snapshot}
 use Rattle.caf_response.specs.Holds.{is_of}
 use Rattle.caf_response.specs.Promised.{Promised}
-use Rattle.caf_script.specs.Reply.{Reply}
 use Rattle.caf_kinds.specs.FileChunks.{AreChunks, all_chunks}
-use Rattle.caf_kinds.specs.Kinds.{kind_rules, index_of, replies_of}
+use Rattle.caf_kinds.specs.Kinds.{kind_rules, index_of}
 use Rattle.caf_kinds.specs.Lines.{extent_of}
 use Rattle.caf_kinds.specs.Setups.{setup_at}
 use Rattle.caf_kinds.specs.declared.contents.Chunk.{Chunk}
 use Rattle.caf_kinds.specs.declared.contents.Extent.{Extent}
 use Rattle.caf_kinds.specs.declared.kind.Kind.{Kind}
-use Rattle.caf_kinds.specs.declared.questions.Question.{Question}
-use Rattle.caf_kinds.specs.declared.questions.Question.TheVariants as question
 use Rattle.caf_kinds.specs.declared.script.Step.{Step}
 use Rattle.caf_kinds.specs.declared.setup.KindName.{KindName}
 use Rattle.caf_kinds.specs.declared.setup.KindName.TheVariants as name
 use Rattle.caf_kinds.specs.declared.setup.Setup.{Setup}
 use Rattle.caf_opening.specs.Opening.{actor_at}
-use Rattle.caf_steady.specs.Outline.{Outline, Outlined, Bare, bare, outline_of}
-use Rattle.caf_steady.specs.Reading.{read, all_in_turn}
+use Rattle.caf_steady.specs.Outline.{Outline, Outlined, Bare, outline_of}
+use Rattle.caf_steady.specs.Reading.{all_in_turn}
 use Rattle.caf_steady.specs.Steady.{Brings, reading}
-use Rattle.caf_pipeline.specs.Undisturbed.{Pipeline, IsPlainScript}
-use Rattle.caf_pipeline.specs.Answered.{HasAnswers, AreAnswered, RestingRequestsAreAnswered}
+use Rattle.caf_pipeline.specs.Undisturbed.{Pipeline}
 use Rattle.caf_pipeline.specs.Contents.{comes}
 use Rattle.caf_pipeline.specs.Flow.{IsUndisturbedRecord}
-use Rattle.caf_pipeline.proofs.AnsweringLemmas.{AllSteps, all_steps, all_replied}
+use Rattle.caf_pipeline.proofs.AnsweringLemmas.{AllSteps, all_steps}
 use Rattle.caf_pipeline.proofs.CollectingLemmas.{IsRight, Collecting, IsReplied}
 use Rattle.caf_pipeline.proofs.QuestionLemmas.{IsAsked, IsAskedSo}
 use Rattle.caf_pipeline.proofs.CollectingLemmas as collecting
-use Rattle.caf_pipeline.proofs.ArrivalLemmas.{arrives, all_turns_have}
-use Rattle.caf_pipeline.proofs.AwaitingLemmas.{IsRightResponse, right_reply, AllSettled, all_settle, waiting_of, asked_above}
 use Rattle.caf_pipeline.proofs.BalanceLemmas.{SentBy, balances, collector_took}
 use Rattle.caf_pipeline.proofs.CollectedLemmas.{chunks, brought, starts, begins_as}
 use Rattle.caf_pipeline.proofs.CollectorLemmas.{Collects}
 use Rattle.caf_pipeline.proofs.CountLemmas.{weigh_all, weigh_one, lines_of_all, bytes_of_all}
 use Rattle.caf_pipeline.proofs.FlowLemmas.{as_content}
 use Rattle.caf_pipeline.proofs.IndexedLemmas.{told_entries}
-use Rattle.caf_pipeline.proofs.IssueLemmas.{IsAskedOf}
 use Rattle.caf_pipeline.proofs.ListLemmas.{one_of}
 use Rattle.caf_pipeline.proofs.OpeningLemmas.{stands}
 use Rattle.caf_pipeline.proofs.PassingLemmas.{weight_as, weight_at, kind_weight}
 use Rattle.caf_pipeline.proofs.PlaceLemmas.{one_of_setups}
-use Rattle.caf_pipeline.proofs.ScriptLemmas.{HasBegun, has_begun, read_any, turns_brought}
+use Rattle.caf_pipeline.proofs.ScriptLemmas.{read_any, turns_brought}
 use Rattle.caf_pipeline.proofs.SenderLemmas.{from_where, all_turns_had}
-use Rattle.caf_pipeline.proofs.StartedLemmas.{started, first_sent, issued, awaiting}
-use Rattle.caf_pipeline.proofs.TallyLemmas.{final_answer, came, body_weight, none_each, one_each, lines_each, bytes_each, Tallied}
+use Rattle.caf_pipeline.proofs.TallyLemmas.{Tallied}
+use Rattle.caf_pipeline.proofs.ComingLemmas.{came, body_weight, none_each, one_each, lines_each, bytes_each}
 use Rattle.caf_pipeline.proofs.UndisturbedLemmas.{undisturbed_files_are_indexed}
 use Rattle.caf_pipeline.proofs.WeightLemmas.{taken_weight}
 

@@ -18,71 +18,17 @@ use Rattle.caf_types.specs.declared.shape.TypeId.{TypeId}
 use Rattle.caf_index.specs.Index.{Entries}
 use Rattle.caf_actor.specs.PlainOutput.{PlainOutput, Tell, Request}
 use Rattle.caf_actor.specs.Sending.{mid_of}
-use Rattle.caf_kinds.specs.declared.contents.Extent.{Extent}
 use Rattle.caf_kinds.specs.declared.kind.Kind.{Kind}
 use Rattle.caf_kinds.specs.declared.questions.Question.{Question}
 use Rattle.caf_kinds.specs.declared.questions.Question.TheVariants as question
-use Rattle.caf_kinds.specs.declared.setup.KindName.{KindName}
-use Rattle.caf_kinds.specs.declared.setup.KindName.TheVariants as name
 use Rattle.caf_steady.specs.Outline.{Outlined, Bare, with_outline, send, request, send_output, send_outputs}
 use Rattle.caf_pipeline.specs.Undisturbed.{Pipeline}
 use Rattle.caf_pipeline.specs.Parts.{start_content}
 use Rattle.caf_pipeline.specs.Sent.{IsTell, IsRequest, AreTotals, AreSent}
 use Rattle.caf_pipeline.proofs.QuestionLemmas.{IsAsked, content_of_question}
 use Rattle.caf_pipeline.proofs.AwaitingLemmas.{IsWaitingRight}
-use Rattle.caf_pipeline.proofs.PassingLemmas.{kind_weight}
 use Rattle.caf_pipeline.proofs.PlayLemmas.{types_for}
-
--- ---- contents that weigh nothing anywhere
-
-abbrev pub IsLight : List ℕ → Type 0
-IsLight words = (a f : ℕ) (h : Extent → ℕ) (k : KindName) → kind_weight a f h k words ≡ 0
-
-start_light : IsLight start_content
-start_light a f h name.Echo = refl
-start_light a f h name.Cell = refl
-start_light a f h name.Calc = refl
-start_light a f h name.Holder = refl
-start_light a f h name.Quitter = refl
-start_light a f h name.Source = refl
-start_light a f h name.Relay = refl
-start_light a f h name.Counter = refl
-start_light a f h name.Lines = refl
-start_light a f h name.Collector = refl
-start_light a f h name.Watcher = refl
-start_light a f h name.Spawner = refl
-start_light a f h name.Alarm = refl
-start_light a f h name.Conductor = refl
-
-question_light : (q : Question) → IsLight (content_of_question q)
-question_light question.Index a f h name.Echo = refl
-question_light question.Index a f h name.Cell = refl
-question_light question.Index a f h name.Calc = refl
-question_light question.Index a f h name.Holder = refl
-question_light question.Index a f h name.Quitter = refl
-question_light question.Index a f h name.Source = refl
-question_light question.Index a f h name.Relay = refl
-question_light question.Index a f h name.Counter = refl
-question_light question.Index a f h name.Lines = refl
-question_light question.Index a f h name.Collector = refl
-question_light question.Index a f h name.Watcher = refl
-question_light question.Index a f h name.Spawner = refl
-question_light question.Index a f h name.Alarm = refl
-question_light question.Index a f h name.Conductor = refl
-question_light question.Totals a f h name.Echo = refl
-question_light question.Totals a f h name.Cell = refl
-question_light question.Totals a f h name.Calc = refl
-question_light question.Totals a f h name.Holder = refl
-question_light question.Totals a f h name.Quitter = refl
-question_light question.Totals a f h name.Source = refl
-question_light question.Totals a f h name.Relay = refl
-question_light question.Totals a f h name.Counter = refl
-question_light question.Totals a f h name.Lines = refl
-question_light question.Totals a f h name.Collector = refl
-question_light question.Totals a f h name.Watcher = refl
-question_light question.Totals a f h name.Spawner = refl
-question_light question.Totals a f h name.Alarm = refl
-question_light question.Totals a f h name.Conductor = refl
+use Rattle.caf_pipeline.proofs.LightLemmas.{IsLight, start_light, question_light}
 
 -- ---- what was issued
 

@@ -43,6 +43,7 @@ pub mod TellingLemmas
 pub mod PassingLemmas
 pub mod SourceWeightLemmas
 pub mod HoldLemmas
+pub mod ComingLemmas
 pub mod TallyLemmas
 pub mod QuestionLemmas
 pub mod CollectingLemmas
@@ -50,7 +51,9 @@ pub mod ToldLemmas
 pub mod HeldLemmas
 pub mod AnsweringLemmas
 pub mod PlayLemmas
+pub mod FoundLemmas
 pub mod AwaitingLemmas
+pub mod LightLemmas
 pub mod IssueLemmas
 pub mod SenderLemmas
 pub mod ReplyLemmas

@@ -47,39 +47,9 @@ use Rattle.caf_pipeline.proofs.ClassLemmas.{at_content}
 use Rattle.caf_pipeline.proofs.CollectorLemmas.{Collects}
 use Rattle.caf_pipeline.proofs.FlowLemmas.{BringsContent, as_content, one_reads, one_stays}
 use Rattle.caf_pipeline.proofs.HoldLemmas.{delivery}
-use Rattle.caf_pipeline.proofs.IssueLemmas.{IsLight}
+use Rattle.caf_pipeline.proofs.LightLemmas.{IsLight, reply_light}
 use Rattle.caf_pipeline.proofs.ListLemmas.{one_of}
 use Rattle.caf_pipeline.proofs.PartLemmas.{hands_on}
-
-reply_light : (index : Entries) (t : Tally) (q : Question) → IsLight (reply index t q)
-reply_light index t question.Index a f h name.Echo = refl
-reply_light index t question.Index a f h name.Cell = refl
-reply_light index t question.Index a f h name.Calc = refl
-reply_light index t question.Index a f h name.Holder = refl
-reply_light index t question.Index a f h name.Quitter = refl
-reply_light index t question.Index a f h name.Source = refl
-reply_light index t question.Index a f h name.Relay = refl
-reply_light index t question.Index a f h name.Counter = refl
-reply_light index t question.Index a f h name.Lines = refl
-reply_light index t question.Index a f h name.Collector = refl
-reply_light index t question.Index a f h name.Watcher = refl
-reply_light index t question.Index a f h name.Spawner = refl
-reply_light index t question.Index a f h name.Alarm = refl
-reply_light index t question.Index a f h name.Conductor = refl
-reply_light index t question.Totals a f h name.Echo = refl
-reply_light index t question.Totals a f h name.Cell = refl
-reply_light index t question.Totals a f h name.Calc = refl
-reply_light index t question.Totals a f h name.Holder = refl
-reply_light index t question.Totals a f h name.Quitter = refl
-reply_light index t question.Totals a f h name.Source = refl
-reply_light index t question.Totals a f h name.Relay = refl
-reply_light index t question.Totals a f h name.Counter = refl
-reply_light index t question.Totals a f h name.Lines = refl
-reply_light index t question.Totals a f h name.Collector = refl
-reply_light index t question.Totals a f h name.Watcher = refl
-reply_light index t question.Totals a f h name.Spawner = refl
-reply_light index t question.Totals a f h name.Alarm = refl
-reply_light index t question.Totals a f h name.Conductor = refl
 
 -- a response that weighs nothing
 pub record IsReply (b : Bare) : Type 0 where

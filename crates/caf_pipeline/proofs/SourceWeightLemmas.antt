@@ -1,5 +1,5 @@
 -- What a source has told weighs as much as its first chunks do, and when it is done as all of them and a finish.
-use Rattle.std.proofs.Common.{◌≡◌, ℕ, zero, suc, ◌+◌, ◌-◌, ◌≤◌, ◌==◌, Bool, true, false, List, [], ◌∷◌, ◌++◌, length, map, take, drop, Option, Some, None, inl, inr, refl, sym, subst, ap, ◌∙◌, arith}
+use Rattle.std.proofs.Common.{◌≡◌, ℕ, ◌+◌, ◌-◌, ◌≤◌, ◌==◌, Bool, true, false, List, [], ◌∷◌, ◌++◌, length, map, take, drop, Option, Some, None, inl, inr, refl, sym, subst, ap, ◌∙◌, arith}
 use Rattle.std.specs.Prelude.{Contains, slice_get}
 use Rattle.std.specs.List.{AllByRecursion}
 use Rattle.std.proofs.lemmas.List.{length-take, length-drop}
@@ -39,32 +39,10 @@ use Rattle.caf_pipeline.proofs.ClassLemmas.{at_content, Goes}
 use Rattle.caf_pipeline.proofs.CountLemmas.{weigh_all, weigh_append}
 use Rattle.caf_pipeline.proofs.FlowLemmas.{BringsContent, as_content, one_leads, one_reads}
 use Rattle.caf_pipeline.proofs.PassingLemmas.{weight_at, weighs_as, chunk_weighs, bare_weight, bare_append, finish_weighs}
+use Rattle.caf_pipeline.proofs.ListLemmas.{take_add, take_front, all_take}
 use Rattle.caf_pipeline.proofs.ProgressLemmas.{goes}
 use Rattle.caf_pipeline.proofs.SourceLemmas.{SourcesFor}
 use Rattle.caf_pipeline.proofs.TellingLemmas.{IsTelling, IsToldBare, told_bares, told_append, all_told_bares, content_tells}
-
--- ---- the first of a list
-
-take_add : {A : Type 0} (a n : ℕ) (xs : List A) → take (a + n) xs ≡ take a xs ++ take n (drop a xs)
-take_add zero n xs = let same : 0 + n ≡ n = omega arith in ap (λ m. take m xs) same
-take_add {A} (suc a) n [] = go (suc a + n) n
-  where
-    go : (m k : ℕ) → take {A = A} m [] ≡ take (suc a) [] ++ take k (drop (suc a) [])
-    go zero zero = refl
-    go zero (suc k) = refl
-    go (suc m) zero = refl
-    go (suc m) (suc k) = refl
-take_add (suc a) n (x ∷ xs) = let same : suc a + n ≡ suc (a + n) = omega arith in ap (λ m. take m (x ∷ xs)) same ∙ ap (λ ys. x ∷ ys) (take_add a n xs)
-
-take_front : {A : Type 0} (n : ℕ) (xs : List A) → take (length (take n xs)) xs ≡ take n xs
-take_front zero xs = refl
-take_front (suc n) [] = refl
-take_front (suc n) (x ∷ xs) = ap (λ ys. x ∷ ys) (take_front n xs)
-
-all_take : {A : Type 0} (P : A → Type 0) (n : ℕ) (xs : List A) → AllByRecursion P xs → AllByRecursion P (take n xs)
-all_take P zero xs all = tt
-all_take P (suc n) [] all = tt
-all_take P (suc n) (x ∷ xs) all = (all.0, all_take P n xs all.1)
 
 none_left : (left : List Chunk) → stage_with left ≡ stage.Done → length left ≡ 0
 none_left [] e = refl

@@ -34,7 +34,8 @@ use Rattle.caf_steady.specs.Reading.{react, all_in_turn}
 use Rattle.caf_steady.specs.Steady.{reading}
 use Rattle.caf_pipeline.specs.Undisturbed.{Pipeline, IsPipeline, IsPlainScript}
 use Rattle.caf_pipeline.specs.Flow.{IsUndisturbedRecord}
-use Rattle.caf_pipeline.proofs.AwaitingLemmas.{IsWaitingRight, IsAwaiting, quiet_react, asked_above}
+use Rattle.caf_pipeline.proofs.AwaitingLemmas.{IsWaitingRight, IsAwaiting}
+use Rattle.caf_pipeline.proofs.FoundLemmas.{quiet_react, asked_above}
 use Rattle.caf_pipeline.proofs.ConductedLemmas.{IsConducted, without_request, all_conducted}
 use Rattle.caf_pipeline.proofs.IdleLemmas.{resolved_plan}
 use Rattle.caf_pipeline.proofs.IssueLemmas.{HasIssued, all_issued}

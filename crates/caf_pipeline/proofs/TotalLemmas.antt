@@ -13,7 +13,8 @@ use Rattle.caf_kinds.specs.declared.setup.KindName.TheVariants as name
 use Rattle.caf_kinds.specs.declared.setup.Setup.{Setup}
 use Rattle.caf_steady.specs.Outline.{Bare, bare}
 use Rattle.caf_pipeline.specs.Undisturbed.{IsSetUp}
-use Rattle.caf_pipeline.proofs.IssueLemmas.{IsLight, IsSentRight}
+use Rattle.caf_pipeline.proofs.IssueLemmas.{IsSentRight}
+use Rattle.caf_pipeline.proofs.LightLemmas.{IsLight}
 use Rattle.caf_pipeline.proofs.PassingLemmas.{weight_as, weight_at, bare_weight}
 use Rattle.caf_pipeline.proofs.PlaceLemmas.{one_of_setups}
 use Rattle.caf_pipeline.proofs.ReplyLemmas.{IsReply}
