@@ -1,4 +1,5 @@
 -- What comes after Stop leaves the conductor's replies as they were.
+use Rattle.std.specs.Prelude.{Contains}
 use Rattle.std.proofs.Common.{◌≡◌, ℕ, zero, suc, ◌<◌, ◌==◌, Bool, true, false, List, [], ◌∷◌, length, count_by, Option, Some, None, refl, sym, subst, ap, ◌∙◌, arith}
 use Rattle.std.proofs.lemmas.Bool.Decides.{nat_tests}
 use Rattle.caf_message.specs.Lists.{pick}
@@ -60,15 +61,16 @@ module _ (setups : List Setup) (steps : List Step) (files : List (List ℕ)) (ti
   nothing_waits : (n : ℕ) → resolved end.outline.pending n ≡ None
   nothing_waits n = none_resolved end.outline.pending n (settles setups steps files ticks k ts is rest).awaiting.awaited (go (count_by (has_number n) end.outline.pending.multiplexed == 0) refl)
     where
+      none_there : (w : Waiting) → Contains end.outline.pending.multiplexed w → has_number n w ≡ true → count_by (has_number n) end.outline.pending.multiplexed ≡ 0
+      none_there w has is_it =
+          let right = one_of (IsWaitingRight (length steps) (lines setups steps files ticks k ts is rest) (bytes setups steps files ticks k ts is rest) (index setups steps files ticks k ts is rest) (first_sent_by setups steps files ticks k ts is rest)) end.outline.pending.multiplexed w
+          (settles setups steps files ticks k ts is rest).awaiting.waiting has in
+          let none = waits_no_more setups steps files ticks k ts is rest w.number right.question right.asked right.below in
+          subst (λ (m : ℕ). count_by (has_number m) end.outline.pending.multiplexed ≡ 0) (same_number w.number n is_it) none
+
       go : (b : Bool) → (count_by (has_number n) end.outline.pending.multiplexed == 0) ≡ b → count_by (has_number n) end.outline.pending.multiplexed ≡ 0
       go true q = same_number (count_by (has_number n) end.outline.pending.multiplexed) 0 q
-      go false q =
-          let found = counted_has (has_number n) end.outline.pending.multiplexed (grind (arith, nat_tests, q)) in
-          let right = one_of (IsWaitingRight (length steps) (lines setups steps files ticks k ts is rest) (bytes setups steps files ticks k ts is rest) (index setups steps files ticks k ts is rest) (first_sent_by setups steps files ticks k ts is rest)) end.outline.pending.multiplexed found.0
-          (settles setups steps files ticks k ts is rest).awaiting.waiting found.1 in
-          let none = waits_no_more setups steps files ticks k ts is rest found.0.number right.question right.asked right.below in
-          let number = same_number found.0.number n found.2 in
-          subst (λ (m : ℕ). count_by (has_number m) end.outline.pending.multiplexed ≡ 0) number none
+      go false q = let found = counted_has (has_number n) end.outline.pending.multiplexed (grind (arith, nat_tests, q)) in none_there found.0 found.1 found.2
 
   -- the replies are these, and no response is waited for
   abbrev pub Known : List Reply → WaitingRequests → Type 0

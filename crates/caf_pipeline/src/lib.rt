@@ -8,6 +8,9 @@
 //! The contract that the layers above rest on is that of [`laws::undisturbed_files_are_indexed`]: wherever such a
 //! record is at rest, the collector's index is the plain index of the files. The other laws are the steps to it: who
 //! may be sent what, that nothing told is lost, and that the source tells all before all is at rest.
+//!
+//! [`laws::complete_files_are_indexed`] carries it over Stop, to complete records, and
+//! [`laws::complete_requests_are_answered`] says what the requests of the script were answered by.
 #![tactic(auto)]
 
 pub mod laws;
