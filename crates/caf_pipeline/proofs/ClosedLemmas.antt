@@ -1,6 +1,6 @@
 -- What comes after Stop leaves the conductor's replies as they were.
-use Rattle.std.specs.Prelude.{Contains}
 use Rattle.std.proofs.Common.{◌≡◌, ℕ, zero, suc, ◌<◌, ◌==◌, Bool, true, false, List, [], ◌∷◌, length, count_by, Option, Some, None, refl, sym, subst, ap, ◌∙◌, arith}
+use Rattle.std.specs.Prelude.{Contains}
 use Rattle.std.proofs.lemmas.Bool.Decides.{nat_tests}
 use Rattle.caf_message.specs.Lists.{pick}
 use Rattle.caf_response.specs.Pending.{WaitingRequests, has_number, resolved}

@@ -63,3 +63,4 @@ pub mod BalanceLemmas
 pub mod CountedLemmas
 pub mod AnsweredLemmas
 pub mod ClosedLemmas
+pub mod TextLemmas

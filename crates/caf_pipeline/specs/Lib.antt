@@ -8,3 +8,4 @@ pub mod Flow
 pub mod Indexed
 pub mod Complete
 pub mod Answered
+pub mod Text

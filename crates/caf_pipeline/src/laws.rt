@@ -9,6 +9,7 @@ ghost use Rattle.caf_pipeline.specs.Indexed.{ToldFilesAreIndexed, UndisturbedFil
 ghost use Rattle.caf_pipeline.specs.Parts.{PartsHandOn};
 ghost use Rattle.caf_pipeline.specs.Postings.{PostingsFitAMessage};
 ghost use Rattle.caf_pipeline.specs.Sent.{UndisturbedScriptIsSent};
+ghost use Rattle.caf_pipeline.specs.Text.{CompleteTextHasIndex};
 ghost use Rattle.caf_pipeline.specs.Undisturbed.{UndisturbedOpens};
 
 /// Undisturbed setups and their script can be opened with any files whose lines are short.
@@ -90,4 +91,11 @@ pub fn resting_requests_are_answered()
 /// And so it is in a complete record: what comes after Stop leaves the replies as they were.
 pub fn complete_requests_are_answered()
     ensures { CompleteRequestsAreAnswered }
+{}
+
+/// The text of a complete record over the opening of an undisturbed run, whatever the order in which anything was
+/// taken: that of the plain index of the files, a line with the files' lines and bytes for each request for totals,
+/// and the trace where it is wanted.
+pub fn complete_text_has_index()
+    ensures { CompleteTextHasIndex }
 {}
