@@ -26,7 +26,7 @@ module _ (setups : List Setup) (script : List Step) (files : List (List ℕ)) (k
   m = machine_of kind_rules
 
   -- no tick was taken, and Stop at most once
-  no_second : (b c : TakenBatch) (bs : List TakenBatch) → heard (k.journal 0) ≡ b ∷ c ∷ bs → ⊥
+  pub no_second : (b c : TakenBatch) (bs : List TakenBatch) → heard (k.journal 0) ≡ b ∷ c ∷ bs → ⊥
   no_second b c bs e = let all = subst (AreNotices m 0 k 1) e is.complete.legal.notices in let few = all.1.0.number in omega (arith, few)
 
   module _ (at : AreParted ts) where

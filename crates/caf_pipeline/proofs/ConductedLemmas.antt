@@ -26,7 +26,7 @@ without_request o left = with_outline o (record o.outline { pending = left })
 -- what stays true while it takes envelopes of which `Q` holds
 pub record IsConducted (Q : Taken → Type 0) (Inv : Outlined Kind → Type 0) : Type 0 where
   pub on_start : (o : Outlined Kind) → Inv o → Inv (react kind_rules o Start)
-  pub on_value : (o : Outlined Kind) (e : Taken) (words : List ℕ) (found : Waiting × WaitingRequests) → Inv o → Q e → e.body ≡ «plain».Content words → resolved o.outline.pending e.mid.number ≡ Some found
+  pub on_value : (o : Outlined Kind) (e : Taken) (words : List ℕ) (found : Waiting × WaitingRequests) → Inv o → Q e → e.body ≡ «plain».Content words → e.mid.response ≡ true → resolved o.outline.pending e.mid.number ≡ Some found
       → Inv (react kind_rules (without_request o found.1) (response_input found.0 words))
   pub on_error : (o : Outlined Kind) (e : Taken) (sec : Sec) (found : Waiting × WaitingRequests) → Inv o → Q e → e.body ≡ «plain».Failure sec → resolved o.outline.pending e.mid.number ≡ Some found
       → Inv (react kind_rules (without_request o found.1) (failure_input found.0 sec))
@@ -47,7 +47,7 @@ module _ (setups : List Setup) (cs : List Chunk) (Q : Taken → Type 0) (Inv : O
       content words b false r brings = let no_such : false ≡ true = rw r at brings in absurd cc
       content words b true r brings =
           let same : read_one kind_rules o e ≡ resolve kind_rules o (λ w. response_input w words) (resolved o.outline.pending e.mid.number) = ap (read_body kind_rules o (origin_of e)) b ∙ rw r refl in
-          subst Inv (sym same) (resolving (λ w. response_input w words) (λ found f. is.on_value o e words found h q b f) (resolved o.outline.pending e.mid.number) refl)
+          subst Inv (sym same) (resolving (λ w. response_input w words) (λ found f. is.on_value o e words found h q b r f) (resolved o.outline.pending e.mid.number) refl)
 
       go : (b : Plain) → e.body ≡ b → BodyBrings may (origin_of e) b → Inv (read_one kind_rules o e)
       go («plain».System notice.Start) b brings = subst Inv (sym (ap (read_body kind_rules o (origin_of e)) b)) (is.on_start o h)

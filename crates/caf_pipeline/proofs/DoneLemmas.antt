@@ -80,6 +80,10 @@ module _ (setups : List Setup) (script : List Step) (files : List (List ℕ)) (t
   unfolding begins_source
   source_waits = refl
 
+  pub source_told : begins_source.source.told ≡ 0
+  unfolding begins_source
+  source_told = refl
+
   pub progress_at_end : Progress setups (all_chunks files) is.undisturbed.pipeline is.undisturbed.actors (chunks setups script files ticks k ts is) src who refl refl is.undisturbed.actors.source.peers_are up is.undisturbed.actors.source.at is.undisturbed.actors.source.kind_is
       (reading kind_rules (k.start src) (k.journal src))
   unfolding begins_source

@@ -51,11 +51,11 @@ use Rattle.caf_pipeline.proofs.PartLemmas.{hands_on}
 
 -- ---- the entries of what was taken
 
-abbrev words_of : Plain → List ℕ
+abbrev pub words_of : Plain → List ℕ
 words_of («plain».Content words) = words
 words_of _ = []
 
-abbrev told_entries : List Taken → List Entry
+abbrev pub told_entries : List Taken → List Entry
 told_entries [] = []
 told_entries (e ∷ es) = entries_in (words_of e.body) ++ told_entries es
 

@@ -1,5 +1,5 @@
 -- Of lists: what holds at each place of them.
-use Rattle.std.proofs.Common.{◌≡◌, ℕ, zero, suc, ◌<◌, List, [], ◌∷◌, length, Some, inl, inr, refl, subst, arith}
+use Rattle.std.proofs.Common.{◌≡◌, ℕ, zero, suc, ◌+◌, ◌<◌, List, [], ◌∷◌, ◌++◌, length, take, drop, Some, inl, inr, refl, subst, ap, ◌∙◌, arith}
 use Rattle.std.specs.Prelude.{slice_get, Contains}
 use Rattle.std.specs.List.{AllByRecursion}
 use Rattle.caf_index.proofs.ContainsLemmas.{contains-none, contains-cases}
@@ -31,3 +31,26 @@ pub got_at : {A : Type 0} (xs : List A) (k : ℕ) → k < length xs → (x : A) 
 got_at [] k low = absurd (omega (arith, low))
 got_at (x ∷ xs) zero low = (x, refl)
 got_at (x ∷ xs) (suc k) low = got_at xs k (omega (arith, low))
+
+-- ---- the first of a list
+
+pub take_add : {A : Type 0} (a n : ℕ) (xs : List A) → take (a + n) xs ≡ take a xs ++ take n (drop a xs)
+take_add zero n xs = let same : 0 + n ≡ n = omega arith in ap (λ m. take m xs) same
+take_add {A} (suc a) n [] = go (suc a + n) n
+  where
+    go : (m k : ℕ) → take {A = A} m [] ≡ take (suc a) [] ++ take k (drop (suc a) [])
+    go zero zero = refl
+    go zero (suc k) = refl
+    go (suc m) zero = refl
+    go (suc m) (suc k) = refl
+take_add (suc a) n (x ∷ xs) = let same : suc a + n ≡ suc (a + n) = omega arith in ap (λ m. take m (x ∷ xs)) same ∙ ap (λ ys. x ∷ ys) (take_add a n xs)
+
+pub take_front : {A : Type 0} (n : ℕ) (xs : List A) → take (length (take n xs)) xs ≡ take n xs
+take_front zero xs = refl
+take_front (suc n) [] = refl
+take_front (suc n) (x ∷ xs) = ap (λ ys. x ∷ ys) (take_front n xs)
+
+pub all_take : {A : Type 0} (P : A → Type 0) (n : ℕ) (xs : List A) → AllByRecursion P xs → AllByRecursion P (take n xs)
+all_take P zero xs all = tt
+all_take P (suc n) [] all = tt
+all_take P (suc n) (x ∷ xs) all = (all.0, all_take P n xs all.1)

@@ -59,7 +59,7 @@ asked_back types values known fit range =
     asked_is_meant (shape_at core) (content types values) (type_ids types) (type_shapes types) values known
     (record { shapes = type_shapes types; have_shapes = known; are_values = several_spelled (type_shapes types) values fit range; words_are = refl })
 
-chunk_back : (c : Chunk) → IsChunk c → chunk_in (asked of_chunk (chunk_content c)) ≡ Some c
+pub chunk_back : (c : Chunk) → IsChunk c → chunk_in (asked of_chunk (chunk_content c)) ≡ Some c
 chunk_back c is = ap chunk_in (asked_back of_chunk (more (chunk_means c) no_data) refl refl (both_true (is_in_range (chunk_means c)) true is.range refl))
 
 items_back : (items : List Item) → items_in (data_of (map item_means items)) ≡ items

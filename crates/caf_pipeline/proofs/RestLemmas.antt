@@ -100,7 +100,7 @@ module _ (setups : List Setup) (script : List ScriptStep) (files : List (List �
       subst (λ (es : List Taken). WaitsAt (ends (machine_of kind_rules) k σ) es) (merged.1.0.waiting σ σ ∙ rest.taken σ σ)
       (subst (λ (x : Snapshot Kind). WaitsAt x ((run (machine_of kind_rules) ticks (opening_state k.places k.start) (steps_of ts)).waiting σ σ)) (merged.1.0.snapshots σ) end)
 
-  told_all : IsAtRest (machine_of kind_rules) k → HasStarted (ends (machine_of kind_rules) k σ).behavior → HasToldAll (ends (machine_of kind_rules) k σ).behavior
+  pub told_all : IsAtRest (machine_of kind_rules) k → HasStarted (ends (machine_of kind_rules) k σ).behavior → HasToldAll (ends (machine_of kind_rules) k σ).behavior
   told_all rest started =
       let end = ends_waiting rest in
       subst HasToldAll (sym end.inv.is) (go end.inv.source.stage end.inv.source.stage refl (subst HasStarted end.inv.is started) end.some)

@@ -1,11 +1,14 @@
 -- At rest the conductor of an undisturbed run has played its script, and each part is still of its kind.
-use Rattle.std.proofs.Common.{◌≡◌, ℕ, suc, ◌+◌, ◌<◌, Bool, true, false, List, [], ◌∷◌, ◌++◌, Option, Some, None, refl, sym, subst, ap, ◌∙◌, arith}
-use Rattle.std.specs.Prelude.{bytes_eq}
+use Rattle.std.proofs.Common.{◌≡◌, ℕ, suc, ◌+◌, ◌<◌, Bool, true, false, List, [], ◌∷◌, ◌++◌, Option, Some, None, inl, inr, refl, sym, subst, ap, ◌∙◌, arith}
+use Rattle.std.specs.Prelude.{◌⊎◌, Contains, bytes_eq}
 use Rattle.std.specs.List.{AllByRecursion}
+use Rattle.std.proofs.lemmas.List.Elements.{Contains-append_right, Contains-append_cases}
+use Rattle.caf_index.proofs.ContainsLemmas.{contains-none, contains-cases}
 use Rattle.caf_words.specs.Several.{ids_of}
 use Rattle.caf_mailbox.specs.Caches.{nothing_cached}
 use Rattle.caf_mailbox.proofs.NextLemmas.{all_append}
 use Rattle.caf_message.specs.Content.{ids_in}
+use Rattle.caf_message.specs.Envelope.{start_envelope}
 use Rattle.caf_message.specs.declared.envelope.Taken.{Taken}
 use Rattle.caf_record.proofs.ListLemmas.{all_left, all_right}
 use Rattle.caf_record.proofs.StampedLemmas.{has_stamps}
@@ -43,6 +46,7 @@ use Rattle.caf_steady.proofs.ClassLemmas.{steady_behavior}
 use Rattle.caf_steady.proofs.ReadingLemmas.{brought_in_turn, reads_in_turn}
 use Rattle.caf_pipeline.specs.Contents.{comes}
 use Rattle.caf_pipeline.specs.Flow.{IsUndisturbedRecord}
+use Rattle.caf_pipeline.proofs.ArrivalLemmas.{all_turns_have}
 use Rattle.caf_pipeline.proofs.CollectedLemmas.{brought, steady, starts}
 use Rattle.caf_pipeline.proofs.ConductedLemmas.{IsConducted, without_request, all_conducted}
 use Rattle.caf_pipeline.proofs.FirstLemmas.{starts_first}
@@ -51,6 +55,7 @@ use Rattle.caf_pipeline.proofs.ListLemmas.{got_at}
 use Rattle.caf_pipeline.proofs.NameLemmas.{after_named}
 use Rattle.caf_pipeline.proofs.PlaceLemmas.{setup_from_1, at_each_place}
 use Rattle.caf_pipeline.proofs.ReadLemmas.{outputs_same}
+use Rattle.caf_pipeline.proofs.SenderLemmas.{all_turns_had}
 use Rattle.caf_pipeline.proofs.SentLemmas.{script_is_sent}
 
 -- ---- a conductor with nothing left to play
@@ -70,7 +75,7 @@ plays_out o i next h leads none =
     played_at o i (plays h.conducting (next, [])).0
     (ap (λ (x : Kind). kind_rules.next x i) h.is ∙ leads ∙ ap (λ (p : script.Played). kind.Conductor (plays h.conducting p).0) (goes_nowhere next none)) none
 
-answered_plan : (s : Script) (o : Option ℕ) (words : List ℕ) → (answered_at s o words).plan ≡ s.plan
+pub answered_plan : (s : Script) (o : Option ℕ) (words : List ℕ) → (answered_at s o words).plan ≡ s.plan
 answered_plan s None words = refl
 answered_plan s (Some step) words = refl
 
@@ -83,7 +88,7 @@ error_played o tag sec h = plays_out o (Failed tag sec) (script.resolved h.condu
 pub played_out : IsConducted (λ e. Unit {0}) PlayedOut
 played_out = record {
   on_start = λ o h. plays_out o Start h.conducting.script h refl h.none_left;
-  on_value = λ o e words found h q body f. answer (without_request o found.1) found.0 words (record { conducting = h.conducting; is = h.is; none_left = h.none_left; known = tt });
+  on_value = λ o e words found h q body response f. answer (without_request o found.1) found.0 words (record { conducting = h.conducting; is = h.is; none_left = h.none_left; known = tt });
   on_error = λ o e sec found h q body f. error_played (without_request o found.1) found.0.tag sec (record { conducting = h.conducting; is = h.is; none_left = h.none_left; known = tt });
 }
   where
@@ -94,7 +99,7 @@ played_out = record {
         go true q = rw q (value_played o w.tag words h)
         go false q = rw q (error_played o w.tag _ h)
 
-any_envelopes : (es : List Taken) → AllByRecursion (λ (e : Taken). Unit {0}) es
+pub any_envelopes : (es : List Taken) → AllByRecursion (λ (e : Taken). Unit {0}) es
 any_envelopes [] = tt
 any_envelopes (e ∷ es) = (tt, any_envelopes es)
 
@@ -169,6 +174,8 @@ module _ (setups : List Setup) (steps : List Step) (files : List (List ℕ)) (ti
     pub later : List TakenBatch
     pub reads : reading kind_rules (k.start 0) (k.journal 0) ≡ read kind_rules (react kind_rules opened Start) (all_in_turn later)
     pub brings : AllByRecursion (Brings (mayAt 0)) (all_in_turn later)
+    pub had : (e : Taken) → Contains (all_in_turn later) e → Contains (joined (k.journal 0)) e
+    pub has : (e : Taken) → Contains (joined (k.journal 0)) e → (e ≡ start_envelope) ⊎ Contains (all_in_turn later) e
 
   pub has_begun : IsAtRest (machine_of kind_rules) k → HasBegun
   has_begun rest =
@@ -178,9 +185,16 @@ module _ (setups : List Setup) (steps : List Step) (files : List (List ℕ)) (ti
         reads = ap (λ (bs : List TakenBatch). reading kind_rules (k.start 0) bs) first.whole ∙ ap (λ (es : List Taken). read kind_rules opened (in_turn es ++ all_in_turn first.later)) first.taken;
         brings = turns_brought 0 first.later
             (all_right (Brings (mayAt 0)) first.first.taken (joined first.later) (subst (λ (bs : List TakenBatch). AllByRecursion (Brings (mayAt 0)) (joined bs)) first.whole (brought setups steps files ticks k ts is 0)));
+        had = λ e in_later.
+            subst (λ (bs : List TakenBatch). Contains (joined bs) e) (sym first.whole)
+            (Contains-append_right first.first.taken (joined first.later) e (all_turns_had first.later e in_later));
+        has = λ e there. elim (Contains-append_cases first.first.taken (joined first.later) e (subst (λ (bs : List TakenBatch). Contains (joined bs) e) first.whole there)) [
+          | inl here ↦ elim (contains-cases start_envelope e [] (subst (λ (es : List Taken). Contains es e) first.taken here)) [ inl is_it ↦ inl (sym is_it) | inr none ↦ absurd (contains-none e none) ]
+          | inr in_later ↦ inr (all_turns_have first.later e in_later)
+        ];
       }
 
-  starts_played : PlayedOut (react kind_rules opened Start)
+  pub starts_played : PlayedOut (react kind_rules opened Start)
   starts_played =
       played_at opened Start (plays conducting (goes_on conducting.script)).0 (ap (λ (l : Outline Kind). kind_rules.next l.behavior Start) opens_as) (script_is_sent who_conducts setups steps is.undisturbed).none_left
 

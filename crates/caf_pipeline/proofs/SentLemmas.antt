@@ -33,7 +33,7 @@ use Rattle.caf_pipeline.specs.Sent.{summary_types, total_types, IsTell, IsReques
 
 -- ---- a plan that never waits is played to its end
 
-abbrev NeverWaits : List played.Step → Type 0
+abbrev pub NeverWaits : List played.Step → Type 0
 NeverWaits plan = AllByRecursion (λ step. waits_for step ≡ wait.Nothing) plan
 
 record PlayedAll (plan : List played.Step) (out : List PlainOutput) (after : Played) : Type 0 where
@@ -57,7 +57,7 @@ played_all (step ∷ rest) s out e never =
 said : (atom : Types) (types : List TypeId) (values : List Value) → IsAtom atom types values → content_for types values ≡ atom_content atom
 said atom types values is = ap (λ (ids : List ℕ). content_of ids (data_of (map datum values))) is.ids ∙ ap (content_of (type_ids atom)) is.units
 
-answered : (setups : List Setup) (kind : KindName) (peers : List ℕ) (to : ℕ) → IsSetUp setups kind peers to → (atom : Types) (types : List TypeId) (values : List Value) → IsAtom atom types values
+pub answered : (setups : List Setup) (kind : KindName) (peers : List ℕ) (to : ℕ) → IsSetUp setups kind peers to → (atom : Types) (types : List TypeId) (values : List Value) → IsAtom atom types values
     → answer_types setups to types ≡ or_none (result_for (interface_of kind) (map type_id (type_ids atom)))
 answered setups kind peers to is atom types values a =
     ap (λ (o : Option Setup). answer_of o types) is.at
@@ -93,7 +93,7 @@ outputs_of setups n steps = flat_map sent (planned_from setups n steps)
 outputs_on : (setups : List Setup) (n : ℕ) (s : Step) (steps : List Step) (o : PlainOutput) → sent (planned_step setups n s) ≡ o ∷ [] → outputs_of setups n (s ∷ steps) ≡ o ∷ outputs_of setups (n + 1) steps
 outputs_on setups n s steps o e = flat_map-cons sent (planned_step setups n s) (planned_from setups (n + 1) steps) ∙ ap (λ (os : List PlainOutput). os ++ outputs_of setups (n + 1) steps) e
 
-record AllSend (P : List PlainOutput → Type 0) (setups : List Setup) (n : ℕ) (steps : List Step) : Type 0 where
+pub record AllSend (P : List PlainOutput → Type 0) (setups : List Setup) (n : ℕ) (steps : List Step) : Type 0 where
   pub never : NeverWaits (planned_from setups n steps)
   pub each : length (outputs_of setups n steps) ≡ length steps
   pub holds : P (outputs_of setups n steps)
@@ -110,7 +110,7 @@ totals_send setups p is n (s ∷ steps) all =
       holds = subst (AreTotals p.collector n) (sym same) (one.holds, rest.holds);
     }
 
-script_sends : (setups : List Setup) (p : Pipeline) → IsPipeline setups p → (script : List Step) → IsPlainScript p script → AllSend (AreSent p) setups 1 script
+pub script_sends : (setups : List Setup) (p : Pipeline) → IsPipeline setups p → (script : List Step) → IsPlainScript p script → AllSend (AreSent p) setups 1 script
 script_sends setups p is [] plays = absurd plays
 script_sends setups p is (first ∷ []) plays = absurd plays
 script_sends setups p is (first ∷ second ∷ others) plays =

@@ -117,7 +117,7 @@ module _ (setups : List Setup) (script : List Step) (files : List (List ℕ)) (t
       all_append (Brings may) (in_turn b.taken) (all_in_turn bs) (brought_in_turn kind_rules may b.taken (all_left (Brings may) b.taken (joined bs) all)) (turns_bring bs (all_right (Brings may) b.taken (joined bs) all))
 
   -- Start was taken, so the source was told to start
-  told_start : IsAtRest (machine_of kind_rules) k → HasTaken k σ start_content
+  pub told_start : IsAtRest (machine_of kind_rules) k → HasTaken k σ start_content
   told_start rest =
       let places = is.opens.places in
       let begun = steady setups script files ticks k ts is 0 (omega (arith, places)) in

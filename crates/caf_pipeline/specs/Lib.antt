@@ -9,3 +9,5 @@ pub mod Indexed
 pub mod Numbers
 pub mod Stamps
 pub mod Complete
+pub mod Answered
+pub mod Text

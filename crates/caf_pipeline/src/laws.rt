@@ -1,4 +1,5 @@
 //! The laws of undisturbed runs. A law is the contract of a function that does nothing.
+ghost use Rattle.caf_pipeline.specs.Answered.{RestingRequestsAreAnswered, CompleteRequestsAreAnswered};
 ghost use Rattle.caf_pipeline.specs.BuiltIn.{BuiltInIsUndisturbed};
 ghost use Rattle.caf_pipeline.specs.Complete.{CompleteFilesAreIndexed};
 ghost use Rattle.caf_pipeline.specs.Contents.{PartsTakeTheirContents};
@@ -10,6 +11,7 @@ ghost use Rattle.caf_pipeline.specs.Parts.{PartsHandOn};
 ghost use Rattle.caf_pipeline.specs.Postings.{PostingsFitAMessage};
 ghost use Rattle.caf_pipeline.specs.Sent.{UndisturbedScriptIsSent};
 ghost use Rattle.caf_pipeline.specs.Stamps.{UndisturbedStampsAreLow};
+ghost use Rattle.caf_pipeline.specs.Text.{CompleteTextHasIndex};
 ghost use Rattle.caf_pipeline.specs.Undisturbed.{UndisturbedOpens};
 
 /// Undisturbed setups and their script can be opened with any files whose lines are short.
@@ -95,4 +97,23 @@ pub fn undisturbed_stamps_are_low()
 /// plain index of the files: what comes after Stop leaves it as it was.
 pub fn complete_files_are_indexed()
     ensures { CompleteFilesAreIndexed }
+{}
+
+/// Where a legal record over the opening of an undisturbed run is at rest, in which no tick and no Stop was taken, each
+/// request of the conductor was answered by a value: the one for the index by how many words and entries the plain
+/// index of the files has, and each one for totals by how many lines and bytes the files have.
+pub fn resting_requests_are_answered()
+    ensures { RestingRequestsAreAnswered }
+{}
+
+/// And so it is in a complete record: what comes after Stop leaves the replies as they were.
+pub fn complete_requests_are_answered()
+    ensures { CompleteRequestsAreAnswered }
+{}
+
+/// The text of a complete record over the opening of an undisturbed run, whatever the order in which anything was
+/// taken: that of the plain index of the files, a line with the files' lines and bytes for each request for totals,
+/// and the trace where it is wanted.
+pub fn complete_text_has_index()
+    ensures { CompleteTextHasIndex }
 {}

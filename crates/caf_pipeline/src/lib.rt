@@ -10,6 +10,9 @@
 //! may be sent what, that nothing told is lost, and that the source tells all before all is at rest.
 //! Beside them stand the numbers: before Stop such a run handles few envelopes ([`laws::undisturbed_runs_are_short`]),
 //! and its stamps are low.
+//!
+//! [`laws::complete_files_are_indexed`] carries it over Stop, to complete records, and
+//! [`laws::complete_requests_are_answered`] says what the requests of the script were answered by.
 #![tactic(auto)]
 
 pub mod laws;
