@@ -1,0 +1,5 @@
+pub mod LogLemmas
+pub mod ComesLemmas
+pub mod SendLemmas
+pub mod QuitLemmas
+pub mod HandleLemmas
