@@ -3,3 +3,6 @@ pub mod ComesLemmas
 pub mod SendLemmas
 pub mod QuitLemmas
 pub mod HandleLemmas
+pub mod DrainLemmas
+pub mod RunLemmas
+pub mod RecordLemmas
