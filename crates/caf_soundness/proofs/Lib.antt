@@ -6,3 +6,6 @@ pub mod HandleLemmas
 pub mod DrainLemmas
 pub mod RunLemmas
 pub mod RecordLemmas
+pub mod KindLemmas
+pub mod ServeLemmas
+pub mod AnsweringLemmas
