@@ -9,3 +9,4 @@ pub mod RecordLemmas
 pub mod KindLemmas
 pub mod ServeLemmas
 pub mod AnsweringLemmas
+pub mod HoldingLemmas
