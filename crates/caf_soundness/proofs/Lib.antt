@@ -10,3 +10,4 @@ pub mod KindLemmas
 pub mod ServeLemmas
 pub mod AnsweringLemmas
 pub mod HoldingLemmas
+pub mod PassingLemmas
