@@ -11,3 +11,5 @@ pub mod ServeLemmas
 pub mod AnsweringLemmas
 pub mod HoldingLemmas
 pub mod PassingLemmas
+pub mod ConductorLemmas
+pub mod BehavesLemmas
