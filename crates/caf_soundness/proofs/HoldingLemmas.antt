@@ -77,7 +77,7 @@ module _ (setups : List Setup) (l : Log) (place : ℕ) where
       (λ q. holds_acts s origin words set given e q (asked of_text words))
       (λ _. quiet_acts setups l place i (kind.Holder s) set.holds))
       (λ _. on_if (HolderActs i) (has holder.settling words) _ _
-      (λ e. record { outputs = texts_sent s.held set.valid set.holds; answer = tt; holds = tt })
+      (λ e. record { outputs = texts_sent s.held set.usable set.holds; answer = tt; holds = tt })
       (λ _. failed_acts setups l place origin words (kind.Holder s) set.holds))
 
   pub holder_acts : (s : Holder) (i : PlainInput) → IsSet setups l place (kind.Holder s) → Given (face setups) l place i → Acts setups l place i (reacted (kind.Holder s) i)

@@ -16,8 +16,7 @@ use Rattle.caf_script.specs.Step.{sent}
 use Rattle.caf_kinds.specs.Alarms.{Awaited}
 use Rattle.caf_kinds.specs.Asking.{Types, of_text, of_unsigned, type_ids, has}
 use Rattle.caf_kinds.specs.Held.{Held}
-use Rattle.caf_kinds.specs.Kinds.{IsValid, name_of, who, interface, kind_rules, reacted}
-use Rattle.caf_kinds.specs.Laws.{stays_valid, stays_same_actor, answers_as_declared}
+use Rattle.caf_kinds.specs.Kinds.{name_of, who, interface, kind_rules, reacted}
 use Rattle.caf_kinds.specs.Peers.{wanted_of}
 use Rattle.caf_kinds.specs.Pipeline.{of_summary, of_total}
 use Rattle.caf_kinds.specs.Reacting.{Reacted, quiet, answers, failed}
@@ -35,6 +34,7 @@ use Rattle.caf_kinds.specs.declared.sights.Sought.{Sought}
 use Rattle.caf_record.proofs.ListLemmas.{all_map}
 use Rattle.caf_soundness.specs.Typed.{face, child_face, IsExpected, Serves}
 use Rattle.caf_soundness.proofs.LogLemmas.{Log, Declares, Grows}
+use Rattle.caf_soundness.proofs.LawfulLemmas.{IsUsable, lawful}
 use Rattle.caf_soundness.proofs.ComesLemmas.{Accepts, IsAsked, IsAskedWhere, Given, Sends, Replies, RepliesTo, Does, all_send}
 
 pub failed_expected : IsExpected sec.Failed
@@ -61,7 +61,7 @@ module _ (setups : List Setup) where
   Holds l _ = Unit {0}
 
   pub record IsSet (l : Log) (place : ℕ) (k : Kind) : Type 0 where
-    pub valid : IsValid k
+    pub usable : IsUsable k
     pub own : (who k).place ≡ place
     pub takes : interface k ≡ face setups place
     pub peers : name_of k ≢ name.Conductor → (i p : ℕ) → slice_get (who k).peers i ≡ Some p → Serves (setup_at setups p) (wanted_of (name_of k) (length (who k).peers) i)
@@ -125,7 +125,7 @@ module _ (setups : List Setup) where
   replies : (l : Log) (place : ℕ) (k : Kind) (i : PlainInput) → IsSet l place k → Given (face setups) l place i → (a : PlainAnswer) → (reacted k i).1.answer ≡ a → IsFine place i a → RepliesTo (face setups) l place i a
   replies l place k (Content origin words) set given (Value value) e fine = λ q.
       let is = given.1 q in
-      let declared : declared_for (interface k) (ids_in words) ≡ Some (ids_in value) = answers_as_declared k origin words value set.valid (given_may l place k (Content origin words) set.takes given) e in
+      let declared = (lawful k (Content origin words) set.usable (given_may l place k (Content origin words) set.takes given)).declared origin words value refl e in
       let there : declared_for (interface k) (ids_in words) ≡ Some is.ids = ap (λ (s : List Signature). declared_for s (ids_in words)) set.takes ∙ is.answers in
       let equal : ◌≡◌ {A = Option (List ℕ)} (Some is.ids) (Some (ids_in value)) = sym there ∙ declared in
       let ids : is.ids ≡ ids_in value = cc in
@@ -164,12 +164,13 @@ module _ (setups : List Setup) where
   pub does : (l : Log) (place : ℕ) (k : Kind) (i : PlainInput) → IsSet l place k → Given (face setups) l place i → Acts l place i (reacted k i) → Does (face setups) kind_rules IsSet l place k i
   does l place k i set given acts =
       let may = given_may l place k i set.takes given in
-      let same = stays_same_actor k i set.valid may in
+      let law = lawful k i set.usable may in
+      let same = law.same in
       record {
         outputs = acts.outputs;
         answer = replies l place k i set given (reacted k i).1.answer refl acts.answer;
         next = record {
-          valid = stays_valid k i set.valid may;
+          usable = law.usable;
           own = same.place ∙ set.own;
           takes = same.interface ∙ set.takes;
           peers = subst (λ (n : KindName). ServesAll n (who (reacted k i).0).peers) (sym (same_name k i)) (subst (ServesAll (name_of k)) (sym same.peers) set.peers);
@@ -197,4 +198,4 @@ module _ (setups : List Setup) where
   holds_on l m (kind.Spawner s) grow h = tt
 
   pub set_on : (l m : Log) (place : ℕ) (k : Kind) → Grows l m → IsSet l place k → IsSet m place k
-  set_on l m place k grow h = record { valid = h.valid; own = h.own; takes = h.takes; peers = h.peers; reserve = h.reserve; holds = holds_on l m k grow h.holds }
+  set_on l m place k grow h = record { usable = h.usable; own = h.own; takes = h.takes; peers = h.peers; reserve = h.reserve; holds = holds_on l m k grow h.holds }

@@ -1,4 +1,5 @@
 pub mod LogLemmas
+pub mod LawfulLemmas
 pub mod ComesLemmas
 pub mod SendLemmas
 pub mod QuitLemmas
