@@ -14,3 +14,5 @@ pub mod HoldingLemmas
 pub mod PassingLemmas
 pub mod ConductorLemmas
 pub mod BehavesLemmas
+pub mod ScriptLemmas
+pub mod OpenLemmas

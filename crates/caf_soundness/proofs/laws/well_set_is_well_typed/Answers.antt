@@ -1,6 +1,5 @@
-use Rattle.caf_soundness.proofs.RecordLemmas.{record_typed}
-use Rattle.caf_soundness.proofs.BehavesLemmas.{kinds_behave}
+use Rattle.caf_soundness.proofs.OpenLemmas.{well_typed}
 use Rattle.caf_soundness.proofs.laws.well_set_is_well_typed.Goals as goal
 
 pub returns : goal.returns
-returns c = ?
+returns c = well_typed
