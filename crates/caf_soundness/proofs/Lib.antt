@@ -16,3 +16,5 @@ pub mod ConductorLemmas
 pub mod BehavesLemmas
 pub mod ScriptLemmas
 pub mod OpenLemmas
+pub mod WellSetLemmas
+pub mod BuiltinLemmas

@@ -1,7 +1,21 @@
 //! The laws of well typed runs. A law is the contract of a function that does nothing.
+ghost use Rattle.caf_soundness.specs.Scenarios.{BuiltinIsWellTyped, ValidScenarioIsWellTyped};
 ghost use Rattle.caf_soundness.specs.Typed.{WellSetIsWellTyped};
 
-/// Where each actor's peers and children take what its kind tells them, each legal record is well typed.
+/// Where setups and script may be opened, and each actor's peers and children take what its kind tells them, each
+/// legal record is well typed, over any files: what a place took or was sent, and is no response, is an input of its
+/// interface, also where it was delayed, passed on, or kept for later; no error that was sent is `unexpected_message`
+/// or `unexpected_response`; and each request ended by a value of the types that it declared, or by another error.
 pub fn well_set_is_well_typed()
     ensures { WellSetIsWellTyped }
+{}
+
+/// So is each legal record of a scenario without faults.
+pub fn valid_scenario_is_well_typed()
+    ensures { ValidScenarioIsWellTyped }
+{}
+
+/// And each one of the built-in scenario.
+pub fn builtin_is_well_typed()
+    ensures { BuiltinIsWellTyped }
 {}
