@@ -1,5 +1,5 @@
 -- Kinds that only answer: an echo, a cell, a calc and a quitter.
-use Rattle.std.proofs.Common.{◌≡◌, ℕ, ℤ, Bool, true, false, List, [], ◌∷◌, Option, Some, None, refl}
+use Rattle.std.proofs.Common.{ℕ, ℤ, true, false, List, Option, Some, None}
 use Rattle.caf_types.specs.declared.reason.Reason.{Reason}
 use Rattle.caf_words.specs.Datum.{Data, no_data, more, a_unit, a_signed, a_text, is_i64}
 use Rattle.caf_types.specs.Reason.{reason_named}
@@ -13,11 +13,10 @@ use Rattle.caf_kinds.specs.Echo as echo
 use Rattle.caf_kinds.specs.Keeping.{on_if}
 use Rattle.caf_kinds.specs.Kinds.{reacted, as_kind}
 use Rattle.caf_kinds.specs.Quitter as quitter
-use Rattle.caf_kinds.specs.Reacting.{Reacted, answers, failed, signed}
+use Rattle.caf_kinds.specs.Reacting.{Reacted, failed, signed}
 use Rattle.caf_kinds.specs.declared.calc.Calc.{Calc}
 use Rattle.caf_kinds.specs.declared.cell.Cell.{Cell}
 use Rattle.caf_kinds.specs.declared.echo.Echo.{Echo}
-use Rattle.caf_kinds.specs.declared.kind.Kind.{Kind}
 use Rattle.caf_kinds.specs.declared.kind.Kind.TheVariants as kind
 use Rattle.caf_kinds.specs.declared.quitter.Quitter.{Quitter}
 use Rattle.caf_kinds.specs.declared.setup.Setup.{Setup}

@@ -10,8 +10,10 @@ use Rattle.caf_soundness.proofs.LogLemmas.{Log}
 use Rattle.caf_soundness.proofs.ComesLemmas.{Given, Behaves}
 use Rattle.caf_soundness.proofs.KindLemmas.{IsSet, Acts, does, set_on}
 use Rattle.caf_soundness.proofs.AnsweringLemmas.{echo_acts, cell_acts, calc_acts, quitter_acts}
-use Rattle.caf_soundness.proofs.HoldingLemmas.{holder_acts, collector_acts, watcher_acts, alarm_acts}
-use Rattle.caf_soundness.proofs.PassingLemmas.{source_acts, lines_acts, counter_acts, relay_acts, spawner_acts}
+use Rattle.caf_soundness.proofs.HoldingLemmas.{holder_acts, collector_acts}
+use Rattle.caf_soundness.proofs.WatchingLemmas.{watcher_acts, alarm_acts}
+use Rattle.caf_soundness.proofs.TellingLemmas.{source_acts, lines_acts, counter_acts}
+use Rattle.caf_soundness.proofs.DelegatingLemmas.{relay_acts, spawner_acts}
 use Rattle.caf_soundness.proofs.ConductorLemmas.{conductor_acts}
 
 module _ (setups : List Setup) where

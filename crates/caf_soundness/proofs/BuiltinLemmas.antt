@@ -4,7 +4,6 @@ use Rattle.std.specs.Prelude.{slice_get}
 use Rattle.std.specs.List.{AllByRecursion, range_with_len}
 use Rattle.caf_mailbox.proofs.NextLemmas.{all_append}
 use Rattle.caf_signature.specs.declared.interface.Signature.{Signature}
-use Rattle.caf_kinds.specs.Kinds.{interface_of}
 use Rattle.caf_kinds.specs.Peers.{wanted_of}
 use Rattle.caf_kinds.specs.Setups.{setup_at}
 use Rattle.caf_kinds.specs.declared.setup.KindName.{KindName}

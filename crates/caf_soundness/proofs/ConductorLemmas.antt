@@ -1,5 +1,5 @@
 -- A conductor plays a well typed script.
-use Rattle.std.proofs.Common.{◌≡◌, ℕ, ◌+◌, List, [], ◌∷◌, ◌++◌, map, flat_map, Option, Some, None, refl, ap, sym, subst, ◌∙◌}
+use Rattle.std.proofs.Common.{◌≡◌, ℕ, List, [], ◌∷◌, map, flat_map, Option, Some, None, refl, sym, subst, ◌∙◌}
 use Rattle.std.specs.List.{AllByRecursion}
 use Rattle.std.proofs.lemmas.List.Concat.{flat_map-cons}
 use Rattle.caf_mailbox.proofs.NextLemmas.{all_append}
@@ -14,7 +14,7 @@ use Rattle.caf_script.specs.Step as planned
 use Rattle.caf_script.specs.Step.{sent}
 use Rattle.caf_script.specs.declared.script.Script.{Script}
 use Rattle.caf_script.proofs.ScriptLemmas.{plays_in_order}
-use Rattle.caf_kinds.specs.Conductor.{Conducting, plays, ticks}
+use Rattle.caf_kinds.specs.Conductor.{Conducting, plays}
 use Rattle.caf_kinds.specs.Kinds.{reacted, as_kind}
 use Rattle.caf_kinds.specs.Signals.{signalled}
 use Rattle.caf_kinds.specs.declared.kind.Kind.TheVariants as kind

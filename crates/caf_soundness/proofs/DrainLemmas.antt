@@ -1,5 +1,5 @@
 -- A batch keeps all as it is to be, and its requests end as they were declared.
-use Rattle.std.proofs.Common.{◌≡◌, ℕ, zero, suc, ◌==◌, bytes_eq, Bool, true, false, List, [], ◌∷◌, ◌++◌, Option, Some, None, is_none, if◌then◌else◌, refl, ap, sym, subst, ◌∙◌}
+use Rattle.std.proofs.Common.{◌≡◌, ℕ, zero, suc, bytes_eq, Bool, true, false, List, [], Option, Some, None, is_none, if◌then◌else◌, refl, sym, subst}
 use Rattle.std.specs.List.{AllByRecursion}
 use Rattle.std.proofs.lemmas.Slice.Eq.{bytes_eq-Decides}
 use Rattle.caf_types.specs.declared.notice.Notice.{Notice}
@@ -7,7 +7,6 @@ use Rattle.caf_types.specs.declared.notice.Notice.TheVariants as notice
 use Rattle.caf_types.specs.declared.sec.Sec.TheVariants as sec
 use Rattle.caf_words.specs.Several.{ids_of}
 use Rattle.caf_message.specs.Content.{ids_in}
-use Rattle.caf_message.specs.Envelope.{is_response}
 use Rattle.caf_message.specs.declared.envelope.Plain.{Plain}
 use Rattle.caf_message.specs.declared.envelope.Plain.TheVariants as «plain»
 use Rattle.caf_message.specs.declared.envelope.Taken.{Taken}
@@ -26,9 +25,10 @@ use Rattle.caf_actor.specs.Snapshot.{Handled, so_far, with_snapshot, cached}
 use Rattle.caf_actor.specs.Ticking.{time_out, next_due, due_count, advance}
 use Rattle.caf_record.proofs.ListLemmas.{same_of}
 use Rattle.caf_soundness.specs.Typed.{IsExpected, GivenTyped, EndsTyped}
-use Rattle.caf_soundness.proofs.LogLemmas.{Log, Declares, Grows, stays, grows_on, declares_one}
-use Rattle.caf_soundness.proofs.ComesLemmas.{ContentComes, BodyComes, Comes, IsDeclared, Behaves, IsKept, Good, After, at_once}
-use Rattle.caf_soundness.proofs.HandleLemmas.{Found, found_in, one_good}
+use Rattle.caf_soundness.proofs.LogLemmas.{Log, Declares, grows_on, declares_one}
+use Rattle.caf_soundness.proofs.ComesLemmas.{ContentComes, BodyComes, Comes, Behaves, Good, After, at_once}
+use Rattle.caf_soundness.proofs.HandleLemmas.{found_in}
+use Rattle.caf_soundness.proofs.EnvelopeLemmas.{one_good}
 
 timeout_expected : IsExpected sec.RequestTimeout
 timeout_expected = record { message = λ e. absurd cc; response = λ e. absurd cc }

@@ -1,37 +1,26 @@
--- What an actor does with one envelope keeps all as it is to be.
-use Rattle.std.proofs.Common.{◌≡◌, ℕ, zero, suc, ◌==◌, ◌&&◌, nat_le, Bool, true, false, List, [], ◌∷◌, length, bytes_eq, Option, Some, None, is_none, if◌then◌else◌, refl, ap, sym, subst, ◌∙◌}
+-- What an actor does with content, with a response and at a tick keeps all as it is to be.
+use Rattle.std.proofs.Common.{◌≡◌, ℕ, zero, suc, ◌==◌, ◌&&◌, nat_le, Bool, true, false, List, [], ◌∷◌, length, bytes_eq, Option, Some, None, is_none, if◌then◌else◌, refl, ap, subst, ◌∙◌}
 use Rattle.std.specs.List.{AllByRecursion}
-use Rattle.caf_types.specs.declared.notice.Notice.{Notice}
-use Rattle.caf_types.specs.declared.notice.Notice.TheVariants as notice
-use Rattle.caf_types.specs.declared.reason.Reason.{Reason}
-use Rattle.caf_types.specs.declared.reason.Reason.TheVariants as reason
-use Rattle.caf_types.specs.declared.sec.Sec.{Sec}
 use Rattle.caf_words.specs.Several.{ids_of}
 use Rattle.caf_message.specs.Content.{ids_in}
 use Rattle.caf_message.specs.Lists.{pick}
-use Rattle.caf_message.specs.declared.envelope.Plain.{Plain}
-use Rattle.caf_message.specs.declared.envelope.Plain.TheVariants as «plain»
-use Rattle.caf_message.specs.declared.envelope.Taken.{Taken}
 use Rattle.caf_mailbox.proofs.NextLemmas.{all_pick}
 use Rattle.caf_response.specs.declared.pending.Waiting.{Waiting}
 use Rattle.caf_response.specs.Delays.{PlainDelay, next_delay}
-use Rattle.caf_response.specs.Pending.{WaitingRequests, has_number, without_due, from_awaited, from_multiplexed, resolved, resolved_where, due_by, expired}
-use Rattle.caf_observe.specs.Observers.{without_link}
+use Rattle.caf_response.specs.Pending.{WaitingRequests, has_number, without_due, from_awaited, from_multiplexed, resolved, resolved_where, due_by}
 use Rattle.caf_signature.specs.declared.interface.Signature.{Signature}
 use Rattle.caf_actor.specs.declared.origin.Origin.{Origin}
-use Rattle.caf_actor.specs.declared.snapshot.Snapshot.{Snapshot}
-use Rattle.caf_actor.specs.Answering.{origin_of, refuse}
-use Rattle.caf_actor.specs.Handling.{handle_content, response_input, failure_input, resolve_with, leave_for, handle_exit, handle_notice, handle_body, handle_where, handle_one}
-use Rattle.caf_actor.specs.PlainInput.{PlainInput, Start, Stop, Content, Failed, Down, Tick}
+use Rattle.caf_actor.specs.Handling.{handle_content, response_input, resolve_with}
+use Rattle.caf_actor.specs.PlainInput.{PlainInput, Content, Tick}
 use Rattle.caf_actor.specs.Reacting.{react, give, give_content}
 use Rattle.caf_actor.specs.Rules.{Rules, is_input}
-use Rattle.caf_actor.specs.Sending.{send_outputs}
 use Rattle.caf_actor.specs.Snapshot.{Handled, with_snapshot}
 use Rattle.caf_actor.specs.Ticking.{timeout_input, time_out, next_due, expire_for, due_count, expire_all, send_delayed, deliver_for, deliver_all, advance, hear_tick, handle_tick}
-use Rattle.caf_soundness.proofs.LogLemmas.{Log, Declares, Grows, stays, grows_on}
-use Rattle.caf_soundness.proofs.ComesLemmas.{Accepts, IsAskedWhere, ContentComes, BodyComes, Comes, IsDeclared, IsDelayed, Given, Does, Behaves, IsKept, Good, After, at_once, asked_grows, replies_grows}
-use Rattle.caf_soundness.proofs.SendLemmas.{picked_passes, tell_good, outputs_good}
-use Rattle.caf_soundness.proofs.QuitLemmas.{answer_good, shell_good, quit_good, quit_where_good}
+use Rattle.caf_soundness.proofs.LogLemmas.{Log, grows_on}
+use Rattle.caf_soundness.proofs.ComesLemmas.{Accepts, IsAskedWhere, IsDeclared, IsDelayed, Given, Does, Behaves, Good, After, at_once, asked_grows, replies_grows}
+use Rattle.caf_soundness.proofs.SendLemmas.{picked_passes, tell_good}
+use Rattle.caf_soundness.proofs.OutputLemmas.{outputs_good}
+use Rattle.caf_soundness.proofs.QuitLemmas.{answer_good, quit_where_good}
 
 -- ---- requests that wait no longer
 
@@ -119,7 +108,7 @@ module _ (face : ℕ → List Signature) {S : Type 0} (rules : Rules S) (T : Log
           (replies_grows face l m sent.on place origin words (rules.reaction t.snapshot.behavior i).answer does.answer) sent.good in
       record { log = m; on = sent.on; good = quit_where_good face rules T behaves first place m _ (rules.reaction t.snapshot.behavior i).quit answered }
 
-  content_good : (l : Log) (t : Handled S) (origin : Origin) (words : List ℕ) → origin.mid.response ≡ false → Accepts face place words → IsAskedWhere face l place origin.mid words → Fine l t
+  pub content_good : (l : Log) (t : Handled S) (origin : Origin) (words : List ℕ) → origin.mid.response ≡ false → Accepts face place words → IsAskedWhere face l place origin.mid words → Fine l t
       → Then l (handle_content rules t origin words)
   content_good l t origin words no_response c asked h =
       let takes : rules.interface t.snapshot.behavior ≡ face place = behaves.takes l place t.snapshot.behavior h.typed in
@@ -128,7 +117,7 @@ module _ (face : ℕ → List Signature) {S : Type 0} (rules : Rules S) (T : Log
 
   -- ---- responses
 
-  response_given : (l : Log) (w : Waiting) (words : List ℕ) → Given face l place (response_input w words)
+  pub response_given : (l : Log) (w : Waiting) (words : List ℕ) → Given face l place (response_input w words)
   response_given l w words = go (bytes_eq (ids_of w.expected) (ids_in words)) refl
     where
       go : (b : Bool) → bytes_eq (ids_of w.expected) (ids_in words) ≡ b → Given face l place (response_input w words)
@@ -152,7 +141,7 @@ module _ (face : ℕ → List Signature) {S : Type 0} (rules : Rules S) (T : Log
         posted = h.posted;
       }
 
-  resolve_good : (l : Log) (t : Handled S) (number : ℕ) (input : Waiting → PlainInput) → ((w : Waiting) → Given face l place (input w)) → Fine l t
+  pub resolve_good : (l : Log) (t : Handled S) (number : ℕ) (input : Waiting → PlainInput) → ((w : Waiting) → Given face l place (input w)) → Fine l t
       → (found : Option (Waiting × WaitingRequests)) → resolved t.snapshot.pending number ≡ found → Then l (resolve_with rules t input found)
   resolve_good l t number input given h None e = once l t h
   resolve_good l t number input given h (Some found) e =
@@ -209,60 +198,10 @@ module _ (face : ℕ → List Signature) {S : Type 0} (rules : Rules S) (T : Log
       go true = give_good l t Tick tt h
       go false = once l t h
 
-  tick_good : (l : Log) (t : Handled S) → Fine l t → Then l (handle_tick rules t)
+  pub tick_good : (l : Log) (t : Handled S) → Fine l t → Then l (handle_tick rules t)
   tick_good l t h =
       let started = advance t in
       let one = expire_good (due_count started.snapshot) l started h in
       let over = expire_all rules started in
       let heard = hear_good one.log (deliver_all over) (deliver_good (length over.snapshot.delays) one.log over one.good) in
       record { log = heard.log; on = grows_on l one.log heard.log one.on heard.on; good = heard.good }
-
-  -- ---- notices
-
-  leave_good : (l : Log) (t : Handled S) (why : Reason) → Fine l t → Fine l (leave_for t why)
-  leave_good l t reason.Normal h = h
-  leave_good l t reason.UserShutdown h = quit_good face rules T behaves first place l t _ h
-  leave_good l t reason.Kill h = quit_good face rules T behaves first place l t _ h
-  leave_good l t reason.Failed h = quit_good face rules T behaves first place l t _ h
-
-  exit_good : (l : Log) (t : Handled S) (from : ℕ) (why : Reason) → Fine l t → Fine l (handle_exit t from why)
-  exit_good l t from why h = go (t.snapshot.place == 0)
-    where
-      gone : Handled S
-      gone = with_snapshot t (record t.snapshot { observers = without_link t.snapshot.observers from })
-
-      go : (b : Bool) → Fine l (if b then t else leave_for gone why)
-      go true = h
-      go false = leave_good l gone why h
-
-  notice_good : (l : Log) (t : Handled S) (n : Notice) → Fine l t → Then l (handle_notice rules t n)
-  notice_good l t notice.Start h = give_good l t Start tt h
-  notice_good l t notice.Stop h = give_good l t Stop tt h
-  notice_good l t (notice.Exit from why) h = once l _ (exit_good l t from why h)
-  notice_good l t (notice.Link from) h = once l (handle_notice rules t (notice.Link from)) h
-  notice_good l t (notice.Unlink from) h = once l (handle_notice rules t (notice.Unlink from)) h
-  notice_good l t (notice.Watch from) h = once l (handle_notice rules t (notice.Watch from)) h
-  notice_good l t (notice.Unwatch from) h = once l (handle_notice rules t (notice.Unwatch from)) h
-  notice_good l t (notice.Down from why) h = give_good l t (Down from why) tt h
-  notice_good l t (notice.Begin from) h = once l (handle_notice rules t (notice.Begin from)) h
-  notice_good l t (notice.Tick from) h = tick_good l t h
-
-  -- ---- one envelope
-
-  body_good : (l : Log) (t : Handled S) (origin : Origin) (body : Plain) → BodyComes face l place origin.mid body → Fine l t → Then l (handle_body rules t origin body)
-  body_good l t origin («plain».System n) c h = notice_good l t n h
-  body_good l t origin («plain».Failure what) c h =
-      resolve_good l t origin.mid.number (λ w. failure_input w what) (λ w. tt) h (resolved t.snapshot.pending origin.mid.number) refl
-  body_good l t origin («plain».Content words) c h = go origin.mid.response refl c
-    where
-      go : (b : Bool) → origin.mid.response ≡ b → ContentComes face l place origin.mid b words
-          → Then l (if b then resolve_with rules t (λ w. response_input w words) (resolved t.snapshot.pending origin.mid.number) else handle_content rules t origin words)
-      go true q c = resolve_good l t origin.mid.number (λ w. response_input w words) (λ w. response_given l w words) h (resolved t.snapshot.pending origin.mid.number) refl
-      go false q c = content_good l t origin words q c.0 c.1 h
-
-  pub one_good : (l : Log) (t : Handled S) (e : Taken) → Comes face l place e → Fine l t → Then l (handle_one rules t e)
-  one_good l t e c h = go t.snapshot.quit
-    where
-      go : (quit : Option Reason) → Then l (handle_where rules t quit (origin_of e) e.body)
-      go None = body_good l t (origin_of e) e.body c h
-      go (Some why) = once l _ (shell_good face rules T behaves first place l t why (origin_of e) e.body h)

@@ -1,5 +1,5 @@
 -- What a kind keeps and does, so that all stays well typed: what it is set up with, and whom it still owes an answer.
-use Rattle.std.proofs.Common.{◌≡◌, ◌≢◌, ℕ, ◌==◌, nat_lt, Bool, true, false, List, [], ◌∷◌, length, Option, Some, None, refl, ap, sym, subst, ◌∙◌}
+use Rattle.std.proofs.Common.{◌≡◌, ◌≢◌, ℕ, true, List, length, Option, Some, refl, ap, sym, subst, ◌∙◌}
 use Rattle.std.specs.Prelude.{bytes_eq, slice_get}
 use Rattle.std.specs.List.{AllByRecursion}
 use Rattle.std.proofs.lemmas.Slice.Eq.{bytes_eq-Decides}
@@ -14,7 +14,7 @@ use Rattle.caf_actor.specs.Rules.{MayBeGiven, is_input, declared_for}
 use Rattle.caf_script.specs.Step as planned
 use Rattle.caf_script.specs.Step.{sent}
 use Rattle.caf_kinds.specs.Alarms.{Awaited}
-use Rattle.caf_kinds.specs.Asking.{Types, of_text, of_unsigned, type_ids, has}
+use Rattle.caf_kinds.specs.Asking.{of_text, of_unsigned, type_ids}
 use Rattle.caf_kinds.specs.Held.{Held}
 use Rattle.caf_kinds.specs.Kinds.{name_of, who, interface, kind_rules, reacted}
 use Rattle.caf_kinds.specs.Peers.{wanted_of}
@@ -35,7 +35,7 @@ use Rattle.caf_record.proofs.ListLemmas.{all_map}
 use Rattle.caf_soundness.specs.Typed.{face, child_face, IsExpected, Serves}
 use Rattle.caf_soundness.proofs.LogLemmas.{Log, Declares, Grows}
 use Rattle.caf_soundness.proofs.LawfulLemmas.{IsUsable, lawful}
-use Rattle.caf_soundness.proofs.ComesLemmas.{Accepts, IsAsked, IsAskedWhere, Given, Sends, Replies, RepliesTo, Does, all_send}
+use Rattle.caf_soundness.proofs.ComesLemmas.{IsAskedWhere, Given, Sends, RepliesTo, Does, all_send}
 
 pub failed_expected : IsExpected sec.Failed
 failed_expected = record { message = λ e. absurd cc; response = λ e. absurd cc }

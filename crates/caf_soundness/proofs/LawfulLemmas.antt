@@ -1,11 +1,10 @@
 -- What no reaction of a kind changes, and what it answers: where a source and a conductor are concerned, of any value.
-use Rattle.std.proofs.Common.{◌≡◌, ℕ, Bool, true, false, List, [], ◌∷◌, Option, Some, None, refl, ap, sym, subst, ◌∙◌}
-use Rattle.std.specs.Prelude.{bytes_eq}
+use Rattle.std.proofs.Common.{◌≡◌, ℕ, true, List, Some, refl, ap, sym, subst, ◌∙◌}
 use Rattle.std.proofs.lemmas.Slice.Eq.{bytes_eq-Decides}
 use Rattle.caf_message.specs.Content.{ids_in}
 use Rattle.caf_actor.specs.declared.origin.Origin.{Origin}
 use Rattle.caf_actor.specs.PlainInput.{PlainInput, Start, Stop, Content, Response, Failed, Down, Tick}
-use Rattle.caf_actor.specs.PlainReaction.{PlainAnswer, Value, Error, Nothing}
+use Rattle.caf_actor.specs.PlainReaction.{Value}
 use Rattle.caf_actor.specs.Rules.{MayBeGiven, IsSameActor, declared_for}
 use Rattle.caf_kinds.specs.Asking.{Types, of_unit, type_ids, has, unit_content}
 use Rattle.caf_kinds.specs.Conductor as conductor

@@ -2,8 +2,10 @@ pub mod LogLemmas
 pub mod LawfulLemmas
 pub mod ComesLemmas
 pub mod SendLemmas
+pub mod OutputLemmas
 pub mod QuitLemmas
 pub mod HandleLemmas
+pub mod EnvelopeLemmas
 pub mod DrainLemmas
 pub mod RunLemmas
 pub mod RecordLemmas
@@ -11,7 +13,9 @@ pub mod KindLemmas
 pub mod ServeLemmas
 pub mod AnsweringLemmas
 pub mod HoldingLemmas
-pub mod PassingLemmas
+pub mod WatchingLemmas
+pub mod TellingLemmas
+pub mod DelegatingLemmas
 pub mod ConductorLemmas
 pub mod BehavesLemmas
 pub mod ScriptLemmas

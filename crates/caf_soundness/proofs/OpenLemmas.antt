@@ -1,21 +1,20 @@
 -- Each place begins as it is to be.
-use Rattle.std.proofs.Common.{◌≡◌, ◌≢◌, ℕ, zero, suc, ◌+◌, ◌-◌, ◌<◌, ◌≤◌, ◌==◌, Bool, true, false, List, [], ◌∷◌, length, pos, Option, Some, None, cond, refl, ap, sym, subst, ◌∙◌, arith}
+use Rattle.std.proofs.Common.{◌≡◌, ◌≢◌, ℕ, zero, suc, ◌+◌, ◌-◌, ◌<◌, ◌≤◌, Bool, true, List, [], ◌∷◌, length, Some, None, cond, refl, ap, sym, subst, ◌∙◌, arith}
 use Rattle.std.specs.Prelude.{nat_le, not, slice_get}
 use Rattle.std.specs.List.{AllByRecursion}
 use Rattle.std.proofs.Math.Dec.{eqb-suc-zero}
 use Rattle.std.proofs.lemmas.Bool.Decides.{nat_tests}
-use Rattle.caf_actor.specs.Merge.{IsMerge}
-use Rattle.caf_actor.specs.Record.{Kept, machine_of, IsLegal}
+use Rattle.caf_actor.specs.Record.{Kept}
 use Rattle.caf_actor.specs.Snapshot.{fresh}
 use Rattle.caf_actor.specs.declared.snapshot.Snapshot.{Snapshot}
 use Rattle.caf_record.proofs.ListLemmas.{same_of}
-use Rattle.caf_kinds.specs.Kinds.{has_peers, interface_of, kind_rules, name_of, who}
+use Rattle.caf_kinds.specs.Kinds.{has_peers, interface_of, kind_rules}
 use Rattle.caf_kinds.specs.Peers.{wanted_of}
 use Rattle.caf_kinds.specs.Planning.{conductor_of}
 use Rattle.caf_kinds.specs.SendLaws.{all_at}
 use Rattle.caf_kinds.specs.Setups.{setup_at}
 use Rattle.caf_kinds.specs.Starting.{started, who_of}
-use Rattle.caf_kinds.specs.Who.{Who, IsWho}
+use Rattle.caf_kinds.specs.Who.{IsWho}
 use Rattle.caf_kinds.specs.declared.kind.Kind.{Kind}
 use Rattle.caf_kinds.specs.declared.kind.Kind.TheVariants as kind
 use Rattle.caf_kinds.specs.declared.script.Step.{Step}
@@ -25,8 +24,7 @@ use Rattle.caf_kinds.specs.declared.setup.Setup.{Setup}
 use Rattle.caf_opening.specs.Opening.{CanStand, CanOpen, own_files, files_left, is_child, actor_at, actors_from, conductor_at_0, who_conducts}
 use Rattle.caf_soundness.specs.Typed.{face_of, face, child_face, Serves, IsWellSet, Begins, WellSetIsWellTyped}
 use Rattle.caf_soundness.proofs.LogLemmas.{Log, stays}
-use Rattle.caf_soundness.proofs.LawfulLemmas.{IsUsable}
-use Rattle.caf_soundness.proofs.KindLemmas.{Holds, IsSet}
+use Rattle.caf_soundness.proofs.KindLemmas.{IsSet}
 use Rattle.caf_soundness.proofs.BehavesLemmas.{kinds_behave}
 use Rattle.caf_soundness.proofs.RunLemmas.{Stands}
 use Rattle.caf_soundness.proofs.RecordLemmas.{record_typed}

@@ -1,5 +1,5 @@
 -- What is answered, and a quit, keeps all as it is to be.
-use Rattle.std.proofs.Common.{◌≡◌, ℕ, ◌+◌, Bool, true, false, List, [], ◌∷◌, ◌++◌, Option, Some, None, if◌then◌else◌, refl, ◌∙◌}
+use Rattle.std.proofs.Common.{◌≡◌, ℕ, Bool, true, false, List, [], ◌∷◌, ◌++◌, Option, Some, None, if◌then◌else◌, refl, ◌∙◌}
 use Rattle.caf_types.specs.declared.notice.Mid.{Mid}
 use Rattle.caf_types.specs.declared.notice.Notice.{Notice}
 use Rattle.caf_types.specs.declared.notice.Notice.TheVariants as notice
@@ -10,12 +10,10 @@ use Rattle.caf_message.specs.Content.{ids_in}
 use Rattle.caf_message.specs.declared.envelope.Plain.{Plain}
 use Rattle.caf_message.specs.declared.envelope.Plain.TheVariants as «plain»
 use Rattle.caf_message.specs.declared.envelope.Taken.{Taken}
-use Rattle.caf_response.specs.Delays.{delayed}
 use Rattle.caf_response.specs.Promised.{Promised}
 use Rattle.caf_observe.specs.Observers.{farewell}
 use Rattle.caf_signature.specs.declared.interface.Signature.{Signature}
 use Rattle.caf_actor.specs.declared.origin.Origin.{Origin}
-use Rattle.caf_actor.specs.PlainOutput.{Exit, Link, Unlink, Watch, Unwatch, Tick}
 use Rattle.caf_actor.specs.PlainReaction.{PlainAnswer, Value, Error, Delegate, Hold, Nothing}
 use Rattle.caf_actor.specs.Rules.{Rules, declared_for}
 use Rattle.caf_actor.specs.Snapshot.{Handled, with_snapshot}

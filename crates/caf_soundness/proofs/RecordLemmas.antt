@@ -1,12 +1,12 @@
 -- A legal record whose places begin so is well typed.
-use Rattle.std.proofs.Common.{◌≡◌, ℕ, ◌<◌, ◌∙◌, ◌==◌, Bool, true, false, List, [], ◌∷◌, ◌++◌, refl, ap, sym, subst, if◌then◌else◌}
+use Rattle.std.proofs.Common.{◌≡◌, ℕ, ◌<◌, ◌∙◌, ◌==◌, Bool, true, false, List, [], ◌∷◌, ap, subst, if◌then◌else◌}
 use Rattle.std.specs.List.{AllByRecursion}
 use Rattle.caf_message.specs.declared.envelope.Taken.{Taken}
 use Rattle.caf_mailbox.proofs.NextLemmas.{all_append}
 use Rattle.caf_actor.specs.declared.journal.TakenBatch.{TakenBatch}
 use Rattle.caf_actor.specs.declared.snapshot.Snapshot.{Snapshot}
 use Rattle.caf_actor.specs.Merge.{IsMerge, steps_of}
-use Rattle.caf_actor.specs.Record.{Machine, Kept, machine_of, IsLegal, joined, from_place, taken_by, sent_by, untaken}
+use Rattle.caf_actor.specs.Record.{Machine, Kept, machine_of, IsLegal, joined, from_place, taken_by, sent_by}
 use Rattle.caf_actor.specs.Run.{State, Turn, IsRun, run, opening_state, EndsAs, IsHeard}
 use Rattle.caf_kinds.specs.Kinds.{kind_rules}
 use Rattle.caf_kinds.specs.declared.kind.Kind.{Kind}

@@ -1,11 +1,10 @@
 -- In each run all that waits and all that is taken is as it is to be.
-use Rattle.std.proofs.Common.{◌≡◌, ℕ, ◌+◌, ◌<◌, ◌∙◌, ◌==◌, ◌&&◌, Bool, true, false, List, [], ◌∷◌, ◌++◌, drop, length, if◌then◌else◌, refl, ap, sym, subst}
+use Rattle.std.proofs.Common.{◌≡◌, ℕ, ◌+◌, ◌<◌, ◌==◌, ◌&&◌, Bool, true, false, List, [], ◌∷◌, length, if◌then◌else◌, refl, sym, subst}
 use Rattle.std.specs.List.{AllByRecursion}
 use Rattle.caf_message.specs.Envelope.{outside, start_envelope}
 use Rattle.caf_message.specs.declared.envelope.Taken.{Taken}
 use Rattle.caf_mailbox.proofs.NextLemmas.{all_append}
 use Rattle.caf_signature.specs.declared.interface.Signature.{Signature}
-use Rattle.caf_actor.specs.declared.journal.TakenBatch.{TakenBatch}
 use Rattle.caf_actor.specs.declared.snapshot.Snapshot.{Snapshot}
 use Rattle.caf_actor.specs.Carriers.{step_resolves, run_resolves}
 use Rattle.caf_actor.specs.Drain.{batch_of}
@@ -13,12 +12,12 @@ use Rattle.caf_actor.specs.PlainPost.{PlainPost}
 use Rattle.caf_actor.specs.Record.{Machine, machine_of, joined, from_place, to_place, when}
 use Rattle.caf_actor.specs.Resolutions.{batch_resolves}
 use Rattle.caf_actor.specs.Rules.{Rules}
-use Rattle.caf_actor.specs.Run.{State, Turn, Step, Take, Speak, MayTake, IsRun, step, run, opening_state, without, take_batch, next_notice, send_notice, batches_of}
+use Rattle.caf_actor.specs.Run.{State, Turn, Step, Take, Speak, MayTake, IsRun, run, opening_state, without, take_batch, next_notice, send_notice, batches_of}
 use Rattle.caf_actor.specs.Snapshot.{so_far}
 use Rattle.caf_record.proofs.ListLemmas.{all_left, all_drop, same_of, self_equal}
 use Rattle.caf_soundness.specs.Typed.{IsTyped, EndsTyped}
 use Rattle.caf_soundness.proofs.LogLemmas.{Log, Grows, stays}
-use Rattle.caf_soundness.proofs.ComesLemmas.{Comes, Arrives, Behaves, IsKept, Good, After, all_come, all_cached_come, all_declared, all_typed}
+use Rattle.caf_soundness.proofs.ComesLemmas.{Comes, Arrives, Behaves, Good, After, all_come, all_cached_come, all_declared, all_typed}
 use Rattle.caf_soundness.proofs.DrainLemmas.{batch_good, batch_typed}
 
 -- what holds of the envelopes of each sender holds of all

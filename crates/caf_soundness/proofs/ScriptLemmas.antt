@@ -1,5 +1,5 @@
 -- A conductor's steps, as they are planned, go to actors that take them and answer as the steps expect.
-use Rattle.std.proofs.Common.{◌≡◌, ℕ, ◌+◌, ◌==◌, Bool, true, false, List, [], ◌∷◌, map, Option, Some, None, if◌then◌else◌, refl, ap, sym, subst, ◌∙◌}
+use Rattle.std.proofs.Common.{◌≡◌, ℕ, ◌+◌, Bool, true, false, List, [], ◌∷◌, map, Option, Some, None, if◌then◌else◌, refl, ap, sym, ◌∙◌}
 use Rattle.std.specs.Prelude.{bytes_eq, is_some, find}
 use Rattle.std.specs.Option.{option_map}
 use Rattle.std.specs.List.{AllByRecursion}
@@ -14,7 +14,6 @@ use Rattle.caf_message.proofs.ContentLemmas.{ids_in-content}
 use Rattle.caf_signature.specs.Interface.{takes, result_for}
 use Rattle.caf_signature.specs.declared.interface.Signature.{Signature}
 use Rattle.caf_actor.specs.Rules.{takes_ids, is_input, declared_for}
-use Rattle.caf_script.specs.Step as planned
 use Rattle.caf_kinds.specs.Kinds.{interface_of}
 use Rattle.caf_kinds.specs.Planning.{content_for, or_none, answer_of, answer_types, planned_step, planned_from}
 use Rattle.caf_kinds.specs.Setups.{setup_at}

@@ -18,7 +18,7 @@ use Rattle.caf_scenario.specs.First.{first_of}
 use Rattle.caf_scenario.specs.Many.{all_children, many_fault}
 use Rattle.caf_scenario.specs.Peers.{asked_fault, peer_fault, peers_fault_of, peers_fault}
 use Rattle.caf_scenario.specs.Read.{Cause, interface, or_else}
-use Rattle.caf_scenario.specs.Scenario.{IsSaid, place_in, place_of, setup_said, setups_said, child, children}
+use Rattle.caf_scenario.specs.Scenario.{IsSaid, place_in, place_of, setups_said, child, children}
 use Rattle.caf_scenario.specs.Steps.{steps_fault}
 use Rattle.caf_scenario.specs.Valid.{json_fault, written_fault, later_fault, found_fault}
 use Rattle.caf_scenario.specs.Written.{Document}
