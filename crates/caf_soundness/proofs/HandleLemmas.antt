@@ -104,8 +104,8 @@ module _ (face : ℕ → List Signature) {S : Type 0} (rules : Rules S) (T : Log
       let sent = reacted l t i does h in
       let m : Log = sent.log in
       let answered = answer_good face rules T behaves first place m (react rules t i) origin words (rules.reaction t.snapshot.behavior i).answer no_response c
-          (asked_grows face l m sent.on place origin.mid words asked)
-          (replies_grows face l m sent.on place origin words (rules.reaction t.snapshot.behavior i).answer does.answer) sent.good in
+      (asked_grows face l m sent.on place origin.mid words asked)
+      (replies_grows face l m sent.on place origin words (rules.reaction t.snapshot.behavior i).answer does.answer) sent.good in
       record { log = m; on = sent.on; good = quit_where_good face rules T behaves first place m _ (rules.reaction t.snapshot.behavior i).quit answered }
 
   pub content_good : (l : Log) (t : Handled S) (origin : Origin) (words : List ℕ) → origin.mid.response ≡ false → Accepts face place words → IsAskedWhere face l place origin.mid words → Fine l t
