@@ -15,9 +15,9 @@ use Rattle.caf_actor.specs.Rules.{Rules}
 use Rattle.caf_actor.specs.Run.{State, Turn, Step, Take, Speak, MayTake, IsRun, run, opening_state, without, take_batch, next_notice, send_notice, batches_of}
 use Rattle.caf_actor.specs.Snapshot.{so_far}
 use Rattle.caf_record.proofs.ListLemmas.{all_left, all_drop, same_of, self_equal}
-use Rattle.caf_soundness.specs.Typed.{IsTyped, EndsTyped}
-use Rattle.caf_soundness.proofs.LogLemmas.{Log, Grows, stays}
-use Rattle.caf_soundness.proofs.ComesLemmas.{Comes, Arrives, Behaves, Good, After, all_come, all_cached_come, all_declared, all_typed}
+use Rattle.caf_soundness.specs.Typed.{EndsTyped}
+use Rattle.caf_soundness.proofs.LogLemmas.{Log, Grows, stays, grows_on}
+use Rattle.caf_soundness.proofs.ComesLemmas.{Comes, Arrives, Behaves, Good, After, all_come, all_cached_come, all_declared}
 use Rattle.caf_soundness.proofs.DrainLemmas.{batch_good, batch_typed}
 
 -- what holds of the envelopes of each sender holds of all
@@ -90,13 +90,15 @@ module _ (face : ℕ → List Signature) {S : Type 0} (rules : Rules S) (T : Log
       all_left (Comes face l t.place) (from_place a t.batch.taken) (may.next a).0
       (subst (AllByRecursion (Comes face l t.place)) (sym (may.next a).1) (h.comes a t.place)))
 
-  pub record WorldAfter (n : ℕ) (s : State (Snapshot S)) : Type 0 where
+  pub record WorldAfter (n : ℕ) (l : Log) (s : State (Snapshot S)) : Type 0 where
     pub log : Log
+    pub on : Grows l log
     pub world : World n log s
 
-  turn_good : (n : ℕ) (l : Log) (s : State (Snapshot S)) (t : Turn) → World n l s → MayTake m s t → WorldAfter n (take_batch m s t)
+  turn_good : (n : ℕ) (l : Log) (s : State (Snapshot S)) (t : Turn) → World n l s → MayTake m s t → WorldAfter n l (take_batch m s t)
   turn_good n l s t h may = record {
     log = o;
+    on = after.on;
     world = record {
       places_are = h.places_are;
       stands = λ p less. stands p less (p == t.place) refl;
@@ -142,9 +144,12 @@ module _ (face : ℕ → List Signature) {S : Type 0} (rules : Rules S) (T : Log
 
   -- ---- runs
 
-  pub record Ran (ticks : ℕ) (s : State (Snapshot S)) (steps : List Step) : Type 0 where
-    pub taken : (p : ℕ) → AllByRecursion (IsTyped (face p)) (joined (batches_of p steps))
-    pub untaken : (a b : ℕ) → AllByRecursion (IsTyped (face b)) ((run m ticks s steps).waiting a b)
+  -- by a log that has grown from the one at first
+  pub record Ran (ticks : ℕ) (l : Log) (s : State (Snapshot S)) (steps : List Step) : Type 0 where
+    pub log : Log
+    pub on : Grows l log
+    pub taken : (p : ℕ) → AllByRecursion (Comes face log p) (joined (batches_of p steps))
+    pub untaken : (a b : ℕ) → AllByRecursion (Comes face log b) ((run m ticks s steps).waiting a b)
     pub resolved : (p : ℕ) → AllByRecursion EndsTyped (run_resolves rules ticks p s steps)
 
   turn_typed : (n : ℕ) (l : Log) (s : State (Snapshot S)) (t : Turn) → World n l s → MayTake m s t → (p : ℕ) → AllByRecursion EndsTyped (step_resolves rules p s (Take t))
@@ -159,38 +164,43 @@ module _ (face : ℕ → List Signature) {S : Type 0} (rules : Rules S) (T : Log
           (batch_typed face rules T behaves l t.place l (s.snapshot t.place) t.batch.taken (batch_comes n l s t h may) (h.stands t.place here))
       go false q = tt
 
-  run_good : (ticks n : ℕ) (steps : List Step) (l : Log) (s : State (Snapshot S)) → World n l s → IsRun m ticks s steps → Ran ticks s steps
+  run_good : (ticks n : ℕ) (steps : List Step) (l : Log) (s : State (Snapshot S)) → World n l s → IsRun m ticks s steps → Ran ticks l s steps
   run_good ticks n [] l s h runs = record {
+    log = l;
+    on = stays l;
     taken = λ p. tt;
-    untaken = λ a b. all_typed face l b (s.waiting a b) (h.comes a b);
+    untaken = h.comes;
     resolved = λ p. tt;
   }
   run_good ticks n (Speak ∷ steps) l s h runs =
       let more = run_good ticks n steps l (send_notice m ticks s) (notice_good n ticks l s h) runs.1 in
-      record { taken = more.taken; untaken = more.untaken; resolved = more.resolved }
+      record { log = more.log; on = more.on; taken = more.taken; untaken = more.untaken; resolved = more.resolved }
   run_good ticks n (Take t ∷ steps) l s h runs =
       let next = turn_good n l s t h runs.0 in
       let more = run_good ticks n steps next.log (take_batch m s t) next.world runs.1 in
+      let on = grows_on l next.log more.log next.on more.on in
       record {
-        taken = λ p. go p (p == t.place) refl (all_typed face l t.place t.batch.taken (batch_comes n l s t h runs.0)) (more.taken p);
+        log = more.log;
+        on = on;
+        taken = λ p. go more.log p (p == t.place) refl (all_come face l more.log on t.place t.batch.taken (batch_comes n l s t h runs.0)) (more.taken p);
         untaken = more.untaken;
         resolved = λ p. all_append EndsTyped (step_resolves rules p s (Take t)) _ (turn_typed n l s t h runs.0 p) (more.resolved p);
       }
     where
-      go : (p : ℕ) (c : Bool) → (p == t.place) ≡ c → AllByRecursion (IsTyped (face t.place)) t.batch.taken → AllByRecursion (IsTyped (face p)) (joined (batches_of p steps))
-          → AllByRecursion (IsTyped (face p)) (joined (batches_of p (Take t ∷ steps)))
-      go p true q here later =
-          rw q (all_append (IsTyped (face p)) t.batch.taken (joined (batches_of p steps))
-          (subst (λ (x : ℕ). AllByRecursion (IsTyped (face x)) t.batch.taken) (sym (same_of p t.place q)) here) later)
-      go p false q here later = rw q later
+      go : (o : Log) (p : ℕ) (c : Bool) → (p == t.place) ≡ c → AllByRecursion (Comes face o t.place) t.batch.taken → AllByRecursion (Comes face o p) (joined (batches_of p steps))
+          → AllByRecursion (Comes face o p) (joined (batches_of p (Take t ∷ steps)))
+      go o p true q here later =
+          rw q (all_append (Comes face o p) t.batch.taken (joined (batches_of p steps))
+          (subst (λ (x : ℕ). AllByRecursion (Comes face o x) t.batch.taken) (sym (same_of p t.place q)) here) later)
+      go o p false q here later = rw q later
 
   -- ---- from the opening on
 
-  abbrev empty : Log
+  abbrev pub empty : Log
   empty r = []
 
   pub runs_good : (ticks places : ℕ) (start : ℕ → Snapshot S) (steps : List Step) → ((p : ℕ) → p < places → Stands empty p (start p))
-      → IsRun m ticks (opening_state places start) steps → Ran ticks (opening_state places start) steps
+      → IsRun m ticks (opening_state places start) steps → Ran ticks empty (opening_state places start) steps
   runs_good ticks places start steps begins runs = run_good ticks places steps empty (opening_state places start) opening runs
     where
       waits : (b : ℕ) (c : Bool) → AllByRecursion (Comes face empty b) (when c (start_envelope ∷ []))

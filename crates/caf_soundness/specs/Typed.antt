@@ -5,6 +5,7 @@ use Rattle.caf_types.specs.declared.sec.Sec.{Sec}
 use Rattle.caf_types.specs.declared.sec.Sec.TheVariants.{UnexpectedMessage, UnexpectedResponse}
 use Rattle.caf_words.specs.Several.{ids_of}
 use Rattle.caf_message.specs.Content.{ids_in}
+use Rattle.caf_message.specs.Envelope.{is_request, is_response}
 use Rattle.caf_message.specs.declared.envelope.Plain.{Plain}
 use Rattle.caf_message.specs.declared.envelope.Plain.TheVariants as «plain»
 use Rattle.caf_message.specs.declared.envelope.Taken.{Taken}
@@ -17,7 +18,7 @@ use Rattle.caf_actor.specs.Merge.{IsMerge, steps_of}
 use Rattle.caf_actor.specs.PlainInput.{PlainInput, Response, Failed}
 use Rattle.caf_actor.specs.Record.{Kept, machine_of, IsLegal, joined, sent_by}
 use Rattle.caf_actor.specs.Resolutions.{Resolution}
-use Rattle.caf_actor.specs.Rules.{is_input}
+use Rattle.caf_actor.specs.Rules.{is_input, declared_for}
 use Rattle.caf_actor.specs.Run.{Turn, opening_state}
 use Rattle.caf_actor.specs.declared.snapshot.Snapshot.{Snapshot}
 use Rattle.caf_kinds.specs.Asking.{of_signed, takes}
@@ -71,13 +72,32 @@ GivenTyped w _ = ⊥
 abbrev pub EndsTyped : Resolution → Type 0
 EndsTyped r = GivenTyped r.request r.given
 
+-- ---- what answers a request
+
+-- of place `p`, whoever sends it or passes it on
+pub record IsResponseTo (p : ℕ) (request response : Taken) : Type 0 where
+  pub asks : is_request request ≡ true
+  pub answers : is_response response ≡ true
+  pub requester : request.mid.requester ≡ p
+  pub number : request.mid.number ≡ response.mid.number
+
+-- an actor that takes these answers such content by content of those types; an error may always come
+abbrev pub IsAnsweredBy : List Signature → Plain → Plain → Type 0
+IsAnsweredBy taken («plain».Content asked) («plain».Content answered) = declared_for taken (ids_in asked) ≡ Some (ids_in answered)
+IsAnsweredBy taken _ _ = Unit {0}
+
+abbrev pub AnswersAsDeclared : List Signature → ℕ → Taken → Taken → Type 0
+AnswersAsDeclared taken p request response = IsResponseTo p request response → IsAnsweredBy taken request.body response.body
+
 -- ---- records
 
 -- what each place took, also what it keeps for later or has quit before; what each place sent, also what is not yet
--- taken; and how the requests of each place ended
+-- taken; what was sent to a place in answer to its requests, whoever they went to, also where it came too late; and how
+-- the requests of each place ended
 pub record IsWellTyped (setups : List Setup) (ticks : ℕ) (k : Kept (Snapshot Kind)) (ts : List Turn) : Type 0 where
   pub taken : (p : ℕ) → AllByRecursion (IsTyped (face setups p)) (joined (k.journal p))
   pub sent : (a p : ℕ) → AllByRecursion (IsTyped (face setups p)) (sent_by (machine_of kind_rules) k a p)
+  pub answered : (a q b p : ℕ) → AllByRecursion (λ request. AllByRecursion (AnswersAsDeclared (face setups q) p request) (sent_by (machine_of kind_rules) k b p)) (sent_by (machine_of kind_rules) k a q)
   pub resolved : (p : ℕ) → AllByRecursion EndsTyped (run_resolves kind_rules ticks p (opening_state k.places k.start) (steps_of ts))
 
 -- ---- setups
