@@ -376,6 +376,172 @@ const MESSAGES: [(&str, &str); 15] = [
     ),
 ];
 
+/// Documents with faults of two passes: the earlier pass wins.
+const TWO_FAULTS: [(&str, &str); 14] = [
+    (r#"{"actors":[{}],"script":[]"#, "not JSON"),
+    (
+        r#"{"actors":[{"name":"a","kind":"x"}],"script":[1]}"#,
+        "field script.0",
+    ),
+    (
+        r#"{"actors":[{"name":"conductor","kind":"echo"}],"script":[],"z":1}"#,
+        "field z",
+    ),
+    (
+        r#"{"actors":[{"name":"c","kind":"counter","peers":["k"]}],"script":[{"do":"go"}]}"#,
+        "field script.0.do",
+    ),
+    (
+        r#"{"actors":[],"script":[{"do":"exit","to":"a","reason":"kill"},{"do":"sync","x":1}]}"#,
+        "field script.1.x",
+    ),
+    (
+        r#"{"actors":[{"name":"k","kind":"calc"}],"script":[{"do":"tell","to":"k","message":[1]},{"do":"tick","within":1}]}"#,
+        "field script.1.within",
+    ),
+    (
+        r#"{"actors":[{"name":"s","kind":"spawner","children":254},{"name":"c","kind":"counter","peers":["k"]}],"script":[]}"#,
+        "too many",
+    ),
+    (
+        r#"{"actors":[{"name":"s","kind":"spawner","children":254},{"name":"b","kind":"echo"}],"script":[{"do":"exit","to":"c","reason":"kill"}]}"#,
+        "too many",
+    ),
+    (
+        r#"{"actors":[{"name":"c","kind":"counter","peers":["k"]},{"name":"b","kind":"x"}],"script":[]}"#,
+        "kind x",
+    ),
+    (
+        r#"{"actors":[{"name":"c","kind":"counter","peers":["k"]},{"name":"c","kind":"echo"}],"script":[]}"#,
+        "name c twice",
+    ),
+    (
+        r#"{"actors":[{"name":"c","kind":"counter","peers":["e"]},{"name":"e","kind":"echo"},{"name":"l","kind":"lines"}],"script":[]}"#,
+        "field actors.2.peers",
+    ),
+    (
+        r#"{"actors":[{"name":"l","kind":"lines"}],"script":[{"do":"tell","to":"l","message":[1]}]}"#,
+        "field actors.0.peers",
+    ),
+    (
+        r#"{"actors":[{"name":"c","kind":"counter","peers":["k"]}],"script":[{"do":"exit","to":"d","reason":"kill"}]}"#,
+        "unknown k",
+    ),
+    (
+        r#"{"actors":[{"name":"c","kind":"counter","peers":["e"]},{"name":"e","kind":"echo"}],"script":[{"do":"tell","to":"e","message":[1]}]}"#,
+        "interface of e for c",
+    ),
+];
+
+/// Documents at the edges of their members' forms.
+const EDGES: [(&str, &str); 14] = [
+    (r#"{"actors":1,"actors":[],"script":[]}"#, "valid"),
+    (
+        r#"{"actors":[{"name":"a","name":"b","kind":"echo"}],"script":[{"do":"exit","to":"a","reason":"kill"}]}"#,
+        "unknown a",
+    ),
+    (
+        r#"{"actors":[{"name":"é","kind":"echo"}],"script":[]}"#,
+        "field actors.0.name",
+    ),
+    (
+        r#"{"actors":[{"name":"a","kind":"echo","":1}],"script":[]}"#,
+        "field actors.0.",
+    ),
+    (
+        r#"{"actors":[{"name":"a","kind":"spawner","children":18446744073709551616}],"script":[]}"#,
+        "field actors.0.children",
+    ),
+    (
+        r#"{"actors":[{"name":"a","kind":"spawner","children":"1"}],"script":[]}"#,
+        "field actors.0.children",
+    ),
+    (
+        r#"{"actors":[{"name":"a","kind":"spawner","children":0}],"script":[]}"#,
+        "valid",
+    ),
+    (
+        r#"{"actors":[],"script":[{"do":"sync","x.y":1}]}"#,
+        "field script.0.x.y",
+    ),
+    (
+        r#"{"actors":[],"script":[{"do":"exit","to":"a","reason":"kill","":1}]}"#,
+        "field script.0.",
+    ),
+    (
+        r#"{"actors":[],"script":[{"do":"request","to":"a","message":[1],"within":1.0}]}"#,
+        "field script.0.within",
+    ),
+    (
+        r#"{"actors":[],"script":[{"do":"request","to":"a","message":[1],"within":-0}]}"#,
+        "field script.0.within",
+    ),
+    (
+        r#"{"actors":[],"script":[{"do":"request","to":"a","message":[1],"within":18446744073709551617}]}"#,
+        "field script.0.within",
+    ),
+    (
+        r#"{"actors":[{"name":"k","kind":"cell"}],"script":[{"do":"await","to":"k","message":[{"get":null}],"within":1000}]}"#,
+        "valid",
+    ),
+    (
+        r#"{"actors":[{"name":"k","kind":"cell"}],"script":[{"do":"request","to":"k","message":[{"get":null}],"within":1}]}"#,
+        "valid",
+    ),
+];
+
+/// Documents whose actors have a peer too many or too few for their kind, or just as many as they may have.
+const PEER_COUNTS: [(&str, &str); 12] = [
+    (
+        r#"{"actors":[{"name":"a","kind":"collector","peers":["a"]}],"script":[]}"#,
+        "field actors.0.peers",
+    ),
+    (
+        r#"{"actors":[{"name":"a","kind":"calc","peers":["a"]}],"script":[]}"#,
+        "field actors.0.peers",
+    ),
+    (
+        r#"{"actors":[{"name":"a","kind":"cell","peers":["a"]}],"script":[]}"#,
+        "field actors.0.peers",
+    ),
+    (
+        r#"{"actors":[{"name":"a","kind":"echo","peers":["a"]}],"script":[]}"#,
+        "field actors.0.peers",
+    ),
+    (
+        r#"{"actors":[{"name":"a","kind":"holder","peers":["a"]}],"script":[]}"#,
+        "field actors.0.peers",
+    ),
+    (
+        r#"{"actors":[{"name":"a","kind":"quitter","peers":["a"]}],"script":[]}"#,
+        "field actors.0.peers",
+    ),
+    (
+        r#"{"actors":[{"name":"a","kind":"spawner","peers":["a"]}],"script":[]}"#,
+        "field actors.0.peers",
+    ),
+    (
+        r#"{"actors":[{"name":"a","kind":"alarm","peers":["a"]}],"script":[]}"#,
+        "field actors.0.peers",
+    ),
+    (
+        r#"{"actors":[{"name":"r","kind":"relay"}],"script":[]}"#,
+        "field actors.0.peers",
+    ),
+    (
+        r#"{"actors":[{"name":"l","kind":"lines","peers":[]}],"script":[]}"#,
+        "field actors.0.peers",
+    ),
+    (
+        r#"{"actors":[{"name":"l","kind":"lines","peers":["k","k"]},{"name":"k","kind":"collector"}],"script":[]}"#,
+        "field actors.0.peers",
+    ),
+    (
+        r#"{"actors":[{"name":"w","kind":"watcher"}],"script":[]}"#,
+        "valid",
+    ),
+];
+
 /// What is answered to the bytes, in words.
 fn answer(alloc: Global, table: &TypeTable, bytes: &[u8]) -> Result<String, Fail>
     requires { seen table.now ≡ core }
@@ -411,6 +577,29 @@ fn peers_are_there_and_take_what_is_asked(rt: HostRuntime) -> Result<(), Fail> {
     let alloc = rt.alloc();
     let table = core_table(alloc)?;
     for (text, wanted) in PEERS {
+        assert_eq!(rt; answer(alloc, &table, text.as_bytes())?.as_str(), wanted);
+    }
+    Ok(())
+}
+
+#[test]
+fn the_earlier_pass_wins(rt: HostRuntime) -> Result<(), Fail> {
+    let alloc = rt.alloc();
+    let table = core_table(alloc)?;
+    for (text, wanted) in TWO_FAULTS {
+        assert_eq!(rt; answer(alloc, &table, text.as_bytes())?.as_str(), wanted);
+    }
+    Ok(())
+}
+
+#[test]
+fn members_and_peers_are_within_their_edges(rt: HostRuntime) -> Result<(), Fail> {
+    let alloc = rt.alloc();
+    let table = core_table(alloc)?;
+    for (text, wanted) in EDGES {
+        assert_eq!(rt; answer(alloc, &table, text.as_bytes())?.as_str(), wanted);
+    }
+    for (text, wanted) in PEER_COUNTS {
         assert_eq!(rt; answer(alloc, &table, text.as_bytes())?.as_str(), wanted);
     }
     Ok(())
@@ -544,6 +733,94 @@ fn limits_are_where_they_are_said_to_be(rt: HostRuntime) -> Result<(), Fail> {
     for (depth, wanted) in [(127, "field "), (128, "not JSON")] {
         let open = repeated(alloc, "", "[", depth, "")?;
         let text = repeated(alloc, open.as_str(), "]", depth, "")?;
+        assert_eq!(rt;
+            answer(alloc, &table, text.as_str().as_bytes())?.as_str(),
+            wanted
+        );
+    }
+    Ok(())
+}
+
+#[test]
+fn numbers_of_peers_and_long_names_are_where_they_are_said_to_be(
+    rt: HostRuntime,
+) -> Result<(), Fail> {
+    let alloc = rt.alloc();
+    let table = core_table(alloc)?;
+    let rows = [
+        (
+            r#"{"actors":[{"name":"k","kind":"collector"},{"name":"l","kind":"lines","peers":["k"]},{"name":"s","kind":"source","peers":["#,
+            r#""l","#,
+            16,
+            r#""k"]}],"script":[]}"#,
+            "valid",
+        ),
+        (
+            r#"{"actors":[{"name":"k","kind":"collector"},{"name":"l","kind":"lines","peers":["k"]},{"name":"s","kind":"source","peers":["#,
+            r#""l","#,
+            17,
+            r#""k"]}],"script":[]}"#,
+            "field actors.2.peers",
+        ),
+        (
+            r#"{"actors":[{"name":"r","kind":"relay","peers":["#,
+            r#""r","#,
+            254,
+            r#""r"]}],"script":[]}"#,
+            "valid",
+        ),
+        (
+            r#"{"actors":[{"name":"r","kind":"relay","peers":["#,
+            r#""r","#,
+            255,
+            r#""r"]}],"script":[]}"#,
+            "field actors.0.peers",
+        ),
+        (
+            r#"{"actors":[{"name":"w","kind":"watcher","peers":["#,
+            r#""w","#,
+            254,
+            r#""w"]}],"script":[]}"#,
+            "valid",
+        ),
+        (
+            r#"{"actors":[{"name":"w","kind":"watcher","peers":["#,
+            r#""w","#,
+            255,
+            r#""w"]}],"script":[]}"#,
+            "field actors.0.peers",
+        ),
+        (
+            r#"{"actors":[],"script":[{"do":"exit","to":""#,
+            "b",
+            64,
+            r#"","reason":"kill"}]}"#,
+            "unknown bbbbbbbbbbbbbbbbbbbbbbbbbbbbbbbbbbbbbbbbbbbbbbbbbbbbbbbbbbbbbbbb",
+        ),
+        (
+            r#"{"actors":[],"script":[{"do":"exit","to":""#,
+            "b",
+            65,
+            r#"","reason":"kill"}]}"#,
+            "field script.0.to",
+        ),
+        (
+            r#"{"actors":[{"name":"a","kind":"relay","peers":[""#,
+            "b",
+            65,
+            r#""]}],"script":[]}"#,
+            "field actors.0.peers.0",
+        ),
+        (
+            r#"{"actors":[],"script":["#,
+            r#"{"do":"exit","to":"a","reason":"kill"},"#,
+            1000,
+            r#"{"do":"tick"}]}"#,
+            "too many",
+        ),
+    ];
+    for (front, piece, count, back, wanted) in rows {
+        let text = repeated(alloc, front, piece, count, back)?;
         assert_eq!(rt;
             answer(alloc, &table, text.as_str().as_bytes())?.as_str(),
             wanted
