@@ -1,0 +1,4 @@
+pub mod Types
+pub mod Account
+pub mod Member
+pub mod Laws
