@@ -2,7 +2,7 @@ use Rattle.std.proofs.Common.{sym}
 use Rattle.caf_types.specs.Table.{shape_at}
 use Rattle.caf_types.specs.TypeTable.{seen}
 use Rattle.caf_kinds.proofs.AskedLemmas.{asked_is_meant, asked_is_none}
-use Rattle.example_bank.specs.Laws.{table_grows, row_has}
+use Rattle.example_bank.specs.Entries.{table_grows, row_has}
 use Rattle.example_bank.proofs.contents.row_in.Goals as goal
 
 pub view-requires-clause-row_fits : goal.view-requires-clause-row_fits

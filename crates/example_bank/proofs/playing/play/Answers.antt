@@ -1,7 +1,7 @@
 use Rattle.std.proofs.Common.{subst, ◌∙◌, arith}
 use Rattle.caf_driver.specs.Driving.{state_of}
 use Rattle.caf_driver.specs.Ends.{EndsSo}
-use Rattle.example_bank.specs.Laws.{bank_has}
+use Rattle.example_bank.specs.Entries.{bank_has}
 use Rattle.example_bank.specs.Member.{rules}
 use Rattle.example_bank.proofs.RestLemmas.{starts_of, may_stop}
 use Rattle.example_bank.proofs.playing.play.Goals as goal
