@@ -25,7 +25,7 @@ use Rattle.caf_actor.specs.Sending.{mid_of}
 use Rattle.caf_carriers.proofs.CountLemmas.{same_number}
 use Rattle.caf_kinds.specs.Keeping.{first_of_and}
 use Rattle.caf_steady.specs.Outline.{Outlined, Bare, with_outline, send, tell, tell_many, request, settle_hold, settle, send_output, send_outputs, answer_request, answer_tell, answer}
-use Rattle.caf_pipeline.proofs.WeightLemmas.{weigh, weigh_append}
+use Rattle.caf_pipeline.proofs.BurdenLemmas.{weigh, weigh_append}
 
 -- ---- holds
 

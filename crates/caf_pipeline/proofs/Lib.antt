@@ -29,7 +29,7 @@ pub mod RestLemmas
 pub mod BegunLemmas
 pub mod UndisturbedLemmas
 pub mod HeavyLemmas
-pub mod WeightLemmas
+pub mod BurdenLemmas
 pub mod CostLemmas
 pub mod PayLemmas
 pub mod PriceLemmas

@@ -46,7 +46,7 @@ use Rattle.caf_pipeline.proofs.PriceLemmas.{price, PaysFor, all_have}
 use Rattle.caf_pipeline.proofs.SourcePayLemmas.{Funds, source_pays}
 use Rattle.caf_pipeline.proofs.TellerPayLemmas.{Measures, lines_pays, Relays, relay_pays, Counts, counter_pays}
 use Rattle.caf_pipeline.proofs.HeavyLemmas.{heavy, sum_most}
-use Rattle.caf_pipeline.proofs.WeightLemmas.{weigh, taken_most}
+use Rattle.caf_pipeline.proofs.BurdenLemmas.{weigh, taken_most}
 
 turns_bring : (may : PlainInput → Bool) (bs : List TakenBatch) → AllByRecursion (Brings may) (joined bs) → AllByRecursion (Brings may) (all_in_turn bs)
 turns_bring may [] all = tt
