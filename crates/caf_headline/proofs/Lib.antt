@@ -1,0 +1,2 @@
+pub mod StartedLemmas
+pub mod OpeningLemmas
