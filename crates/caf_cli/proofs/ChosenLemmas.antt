@@ -5,7 +5,7 @@ use Rattle.caf_corpus.specs.Corpus.{IsWithin}
 use Rattle.caf_opening.specs.Opening.{CanOpen}
 use Rattle.caf_scenario.specs.declared.scenario.Scenario.{Scenario}
 use Rattle.caf_typing.specs.Opens.{ValidScenarioOpens, BuiltinOpens}
-use Rattle.caf_cli.specs.Run.{IsChosen}
+use Rattle.caf_cli.specs.Promises.{IsChosen}
 use Rattle.caf_cli.proofs.LinesLemmas.{within_is_short}
 
 pub chosen_opens : ValidScenarioOpens → BuiltinOpens → (told : Option Content) (name : Option (List ℕ)) (scenario : Scenario) (corpus : List (List ℕ))

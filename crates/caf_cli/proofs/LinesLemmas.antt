@@ -36,7 +36,7 @@ short_behind front (byte ∷ bytes) all =
     let moved : (front ++ byte ∷ []) ++ bytes ≡ front ++ byte ∷ bytes = append_assoc front (byte ∷ []) bytes in
     let longer = length-append front (byte ∷ []) in
     let later : AreShortBehind (front ++ byte ∷ []) bytes = λ k low within.
-        subst (λ (xs : List ℕ). filled_behind (take k xs) < 1048576) (sym moved) (all k (omega (arith, low, longer)) (subst (λ (xs : List ℕ). k < length xs) moved within)) in
+    subst (λ (xs : List ℕ). filled_behind (take k xs) < 1048576) (sym moved) (all k (omega (arith, low, longer)) (subst (λ (xs : List ℕ). k < length xs) moved within)) in
     both_true (nat_le (filled_behind front + 1) 1048576) _ (le-leb (filled_behind front + 1) 1048576 (omega (arith, here)))
     (subst (λ (n : ℕ). has_short_lines n bytes ≡ true) (filled_more front byte) (short_behind (front ++ byte ∷ []) bytes later))
 

@@ -1,12 +1,12 @@
 -- What a play promises, put together.
 use Rattle.std.proofs.Common.{◌≡◌, ℕ, ◌+◌, ◌≤◌, List, length, Some, refl}
-use Rattle.std.specs.Prelude.{slice_get, Result, Ok, Err, IfOk}
+use Rattle.std.specs.Prelude.{slice_get, Result, Ok, Err, IfOk, OnOk}
 use Rattle.caf_actor.specs.declared.snapshot.Snapshot.{Snapshot}
 use Rattle.caf_actor.specs.Record.{Kept, ends, heard, IsComplete}
 use Rattle.caf_record.specs.RunRecord.{record_of, HasStarts}
 use Rattle.caf_driver.specs.Opening.{StartsAt}
 use Rattle.caf_kinds.specs.declared.kind.Kind.{Kind}
-use Rattle.caf_opening.specs.Opening.{opening_of}
+use Rattle.caf_opening.specs.Opening.{opening_of, AreKnown}
 use Rattle.caf_play.specs.Ending.{machine, ticks_of, IsLegalWithin, IsOverBudget, IsExhausted, EndsAs}
 use Rattle.caf_play.specs.declared.played.Played.{Played}
 use Rattle.caf_play.specs.declared.played.PlayEnd.{PlayEnd}
@@ -35,12 +35,14 @@ module _ {E : Type 0} (scenario : Scenario) (files : List (List ℕ)) (budget : 
       → FromStart result (λ start played. (place : ℕ) → played.end ≡ play.Exhausted place → IsExhausted (ticks_of scenario.script) budget (record_of start played.kept) place)
       → FromStart result (λ start played. (place : ℕ) (kind : Kind) → slice_get played.kinds place ≡ Some kind → (ends machine (record_of start played.kept) place).behavior ≡ kind)
       → FromStart result (λ start played. HasStarts machine start played.kept)
+      → OnOk result (AreKnown (opening_of scenario.setups scenario.script files))
       → IfOk result (λ played. (length played.kinds ≡ length scenario.setups + 1) × (length played.kept.journals ≡ length scenario.setups + 1))
       → IfOk result (IsPlay scenario files budget)
-  is_play (Ok played) few legal complete told over spent kinds starts count = record {
+  is_play (Ok played) few legal complete told over spent kinds starts known count = record {
     count = count.0;
     places = count.1;
     few = few;
+    known = known;
     plays = λ start begins. record {
       starts = starts start begins;
       legal = legal start begins;
@@ -48,4 +50,4 @@ module _ {E : Type 0} (scenario : Scenario) (files : List (List ℕ)) (budget : 
       kinds = kinds start begins;
     };
   }
-  is_play (Err e) few legal complete told over spent kinds starts count = tt
+  is_play (Err e) few legal complete told over spent kinds starts known count = tt

@@ -2,6 +2,7 @@ pub mod End
 pub mod Ends
 pub mod Reading
 pub mod Play
+pub mod Promises
 pub mod Run
 pub mod Quiet
 pub mod Make

@@ -5,7 +5,7 @@ use Rattle.caf_actor.specs.Record.{ends}
 use Rattle.caf_record.specs.RunRecord.{record_of, HasStarts}
 use Rattle.caf_driver.specs.Opening.{StartsAt}
 use Rattle.caf_kinds.specs.declared.kind.Kind.{Kind}
-use Rattle.caf_opening.specs.Opening.{opening_of}
+use Rattle.caf_opening.specs.Opening.{opening_of, AreKnown}
 use Rattle.caf_play.specs.Ending.{machine, ticks_of, IsLegalWithin, EndsAs}
 use Rattle.caf_play.specs.declared.played.Played.{Played}
 use Rattle.caf_scenario.specs.declared.scenario.Scenario.{Scenario}
@@ -23,4 +23,5 @@ pub record IsPlay (scenario : Scenario) (files : List (List ℕ)) (budget : ℕ)
   pub count : length played.kinds ≡ length scenario.setups + 1
   pub places : length played.kept.journals ≡ length scenario.setups + 1
   pub few : length scenario.setups ≤ 255
+  pub known : AreKnown (opening_of scenario.setups scenario.script files)
   pub plays : (start : ℕ → Snapshot Kind) → StartsAt start (opening_of scenario.setups scenario.script files) → IsPlayFrom start scenario budget played

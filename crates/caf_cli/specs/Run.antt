@@ -2,26 +2,19 @@
 use Rattle.std.specs.Prelude.{◌≡◌, ◌⊎◌, ℕ, ◌<◌, ◌≤◌, List, length, Option, Some, None}
 use Rattle.caf_io.specs.Files.{Content}
 use Rattle.caf_command.specs.declared.run_words.RunWords.{RunWords}
-use Rattle.caf_kinds.specs.Core.{core}
 use Rattle.caf_record.specs.declared.run_record.RunRecord.{RunRecord}
-use Rattle.caf_report.specs.Report.{text_of}
 use Rattle.caf_play.specs.declared.played.Played.{Played}
 use Rattle.caf_play.specs.declared.played.PlayEnd.{PlayEnd}
 use Rattle.caf_play.specs.declared.played.PlayEnd.TheVariants as play
-use Rattle.caf_scenario.specs.Builtin.{IsBuiltin}
 use Rattle.caf_scenario.specs.declared.scenario.Scenario.{Scenario}
 use Rattle.caf_cli.specs.Ends.{HasTried}
 use Rattle.caf_cli.specs.Play.{IsPlay}
-use Rattle.caf_cli.specs.Reading.{IsReadFrom, IsRefused, IsCorpus, HasNoCorpus, NamesManyFiles}
+use Rattle.caf_cli.specs.Promises.{IsChosen, run_text, KeepsWord}
+use Rattle.caf_cli.specs.Reading.{IsRefused, IsCorpus, HasNoCorpus, NamesManyFiles}
 use Rattle.caf_cli.specs.declared.end.End.{End}
 use Rattle.caf_cli.specs.declared.end.End.TheVariants.{Done, Write, Memory, Budget, Exhausted}
 
 -- ---- the scenario
-
--- it is the one in the file of this name, or the built-in one over four counters
-abbrev pub IsChosen : Option Content → Option (List ℕ) → Scenario → Type 0
-IsChosen told (Some name) scenario = IsReadFrom told name scenario
-IsChosen told None scenario = IsBuiltin 4 scenario
 
 abbrev pub NoneIsChosen : Option Content → Option (List ℕ) → End → Type 0
 NoneIsChosen told (Some name) end = IsRefused told name end
@@ -29,12 +22,13 @@ NoneIsChosen told None end = end ≡ Memory
 
 -- ---- the play
 
--- the play is one of that scenario, over the files that the words name
+-- the play is one of that scenario, over the files that the words name, and its record keeps the product's word
 pub record IsRun (told : Option Content) (words : RunWords) (scenario : Scenario) (played : Played) : Type 0 where
   pub chosen : IsChosen told words.scenario scenario
   pub corpus : List (List ℕ)
   pub reads : IsCorpus told words.files corpus
   pub play : IsPlay scenario corpus words.budget played
+  pub word : KeepsWord words scenario corpus played
 
 -- why there is none, in the order in which it is looked for
 abbrev pub IsNotRun : Option Content → RunWords → End → Type 0
@@ -45,9 +39,6 @@ IsNotRun told words end =
     ⊎ (end ≡ Memory)
 
 -- ---- the text
-
-abbrev pub run_text : RunWords → Scenario → Played → List ℕ
-run_text words scenario played = text_of core scenario.script words.files played.kinds played.kept words.is_traced
 
 -- how the play is told: its record is kept, and where it is complete, writing its text ended so
 abbrev pub IsTold : RunWords → Scenario → Played → (kept : Option RunRecord) (before now : Option (List ℕ)) → End → Type 0

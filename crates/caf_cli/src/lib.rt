@@ -4,8 +4,8 @@
 //! speak of the bytes that were told and written, and of counts of faults.
 //!
 //! The contract that the program rests on is that of [`run_main`]: each end has its cause. Where a run ends with
-//! [`End::Done`], what was written is the text of its record, which is complete, and of which `IsKept` says what a
-//! user relies on.
+//! [`End::Done`], what was written is the text of its record, which is complete, and of which `KeepsWord` says
+//! what a user relies on.
 #![tactic(auto)]
 
 mod checking;
@@ -14,12 +14,13 @@ mod making;
 mod outcome;
 mod plain;
 mod playing;
+mod promises;
 mod reading;
 mod running;
-mod top;
-mod writing;
 #[cfg(test)]
 mod tests;
+mod top;
+mod writing;
 
 pub use caf_command::WordList;
 pub use end::{End, LimitKind, end_line};

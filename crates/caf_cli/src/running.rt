@@ -4,10 +4,12 @@ ghost use Rattle.caf_types.specs.TypeTable.{seen};
 ghost use Rattle.caf_io.specs.Faults.{Rose};
 ghost use Rattle.caf_kinds.specs.Core.{core};
 ghost use Rattle.caf_cli.specs.End.{has_written};
-ghost use Rattle.caf_cli.specs.Run.{IsChosen, NoneIsChosen, IsRun, IsNotRun, IsTold, RunEnds};
+ghost use Rattle.caf_cli.specs.Promises.{IsChosen};
+ghost use Rattle.caf_cli.specs.Run.{NoneIsChosen, IsRun, IsNotRun, IsTold, RunEnds};
 
 use crate::end::{End, LimitKind};
 use crate::playing::play_over;
+use crate::promises::{know_files, runs_keep_their_word};
 use crate::reading::{are_few, corpus_of, scenario_in};
 use crate::writing::write_text;
 use caf_command::RunWords;
@@ -82,11 +84,13 @@ fn played<F: Files>(
 {
     valid_scenario_opens();
     builtin_opens();
+    runs_keep_their_word();
     if !are_few(&words.files) {
         return Err(End::Limit(LimitKind::Files, 0, 0));
     }
     let scenario = chosen(alloc, table, files, &words.scenario)?;
     let corpus = corpus_of(alloc, files, &words.files)?;
+    know_files(corpus.as_slice());
     let played = play_over(alloc, table, &scenario, corpus, words.budget)?;
     Ok(Ran { scenario, played })
 }
@@ -113,13 +117,7 @@ fn chosen<F: Files>(
 }
 
 /// Writes the text of the record, where it is complete.
-fn told<S: Sink>(
-    alloc: Global,
-    table: &TypeTable,
-    words: &RunWords,
-    ran: Ran,
-    out: &mut S,
-) -> Ended
+fn told<S: Sink>(alloc: Global, table: &TypeTable, words: &RunWords, ran: Ran, out: &mut S) -> Ended
     requires table { seen table.now ≡ core }
     requires few { length ran.played.kept.journals ≤ 2 ^ 32 }
     ensures told { IsTold words.now ran.scenario ran.played result.kept (S.written out.old) (S.written out.new) result.end }

@@ -16,7 +16,10 @@ fn an_absent_file_is_told(rt: HostRuntime) -> Result<(), Fail> {
         (["run", "A.txt", "no such.txt"].as_slice(), "no such.txt"),
         (["plain", "no such.txt", "A.txt"].as_slice(), "no such.txt"),
         (["check", "s.json"].as_slice(), "s.json"),
-        (["run", "--scenario", "s.json", "no such.txt"].as_slice(), "s.json"),
+        (
+            ["run", "--scenario", "s.json", "no such.txt"].as_slice(),
+            "s.json",
+        ),
     ] {
         let seen = seen(rt.alloc(), words, &[("A.txt", CATS)])?;
         assert_eq!(rt; seen.status, 3);

@@ -76,6 +76,12 @@ fn each_fault_of_a_name_has_its_line(rt: HostRuntime) -> Result<(), Fail> {
     assert!(rt; is_told(alloc, unknown, "caf: scenario: unknown b\n")?);
     let asking = Name::of(alloc, "conductor")?;
     let interface = ScenarioFault::Interface(asking, Name::of(alloc, "k")?);
-    assert!(rt; is_told(alloc, interface, "caf: scenario: interface of k for conductor\n")?);
+    assert!(rt;
+        is_told(
+            alloc,
+            interface,
+            "caf: scenario: interface of k for conductor\n"
+        )?
+    );
     Ok(())
 }

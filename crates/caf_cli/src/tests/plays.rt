@@ -159,7 +159,14 @@ fn a_trace_shows_each_batch(rt: HostRuntime) -> Result<(), Fail> {
     for workers in ["1", "4", "64"] {
         let seen = seen(
             rt.alloc(),
-            &["run", "--trace", "--scenario", "s.json", "--workers", workers],
+            &[
+                "run",
+                "--trace",
+                "--scenario",
+                "s.json",
+                "--workers",
+                workers,
+            ],
             &[("s.json", SUM.as_bytes())],
         )?;
         assert_eq!(rt; seen.status, 0);

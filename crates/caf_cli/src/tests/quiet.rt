@@ -47,14 +47,18 @@ fn check_counts_actors_and_steps(rt: HostRuntime) -> Result<(), Fail> {
         &[("s.json", SUMS.as_bytes())],
     )?;
     assert_eq!(rt; valid.status, 0);
-    assert_eq!(rt; valid.out.written(), b"valid: 1 actors, 3 steps\n".as_slice());
+    assert_eq!(rt;
+        valid.out.written(),
+        b"valid: 1 actors, 3 steps\n".as_slice()
+    );
     Ok(())
 }
 
 /// `check` and `run` refuse a scenario alike.
 #[test]
 fn a_faulty_scenario_is_refused(rt: HostRuntime) -> Result<(), Fail> {
-    let interface = r#"{"actors":[{"name":"c","kind":"counter","peers":["k"]},{"name":"k","kind":"calc"}],"script":[]}"#;
+    let interface =
+        r#"{"actors":[{"name":"c","kind":"counter","peers":["k"]},{"name":"k","kind":"calc"}],"script":[]}"#;
     for (bytes, is_json, path) in [
         ("{", false, ""),
         (r#"{"actors":[]}"#, true, "script"),
@@ -99,8 +103,14 @@ fn is_interface(end: &End) -> bool {
 #[test]
 fn make_counts_generated_files(rt: HostRuntime) -> Result<(), Fail> {
     for (number, text) in [
-        ("2", "files 1 bytes 72 lines 2 chunks 1 words 16 postings 16\n"),
-        ("0000000002", "files 1 bytes 72 lines 2 chunks 1 words 16 postings 16\n"),
+        (
+            "2",
+            "files 1 bytes 72 lines 2 chunks 1 words 16 postings 16\n",
+        ),
+        (
+            "0000000002",
+            "files 1 bytes 72 lines 2 chunks 1 words 16 postings 16\n",
+        ),
     ] {
         let seen = seen(rt.alloc(), &["make", number], &[])?;
         assert_eq!(rt; seen.status, 0);

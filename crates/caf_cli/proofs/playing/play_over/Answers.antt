@@ -10,4 +10,4 @@ pub returns : goal.returns
 returns c =
     let all = c.play.ensures in
     is_play c.args.scenario.now c.args.files c.args.budget c.play.result c.requires.opens.few
-    all.legal all.complete all.ticks all.budget all.exhausted all.kinds all.starts all.count
+    all.legal all.complete all.ticks all.budget all.exhausted all.kinds all.starts all.known all.count
