@@ -47,10 +47,10 @@ fn push<B: Behavior, R: Wait>(
         return Ok(());
     }
     let lane = &mut lanes[post.to as usize];
-    match lane.push(rt, post.envelope) {
-        Ok(()) => Ok(()),
-        Err((_, fault)) => Err(fault),
+    if lane.push(rt, post.envelope).is_err() {
+        return Err(Memory);
     }
+    Ok(())
 }
 
 /// The place is added where it isn't there yet.
