@@ -1,5 +1,6 @@
 -- A station, as its actor takes a batch.
-use Rattle.std.proofs.Common.{◌≡◌, ◌≢◌, ℕ, ◌<◌, List, [], ◌∷◌, ◌++◌, false, refl, ap, sym, ◌∙◌, subst, append_assoc}
+use Rattle.std.proofs.Common.{◌≡◌, ◌≢◌, ℕ, ◌<◌, List, [], ◌∷◌, ◌++◌, map, Option, Some, None, false, refl, ap, sym, ◌∙◌, subst, append_assoc}
+use Rattle.std.specs.Prelude.{MatchOption, IfSome}
 use Rattle.std.proofs.lemmas.List.{append-nil}
 use Rattle.std.specs.List.{AllByRecursion}
 use Rattle.caf_message.specs.declared.envelope.Taken.{Taken}
@@ -23,6 +24,22 @@ use Rattle.caf_driver.proofs.TurnLemmas.{played_counted}
 use Rattle.caf_system.specs.Station.{StationSeen, AreLanesOf, IsStation, HasSent, GoesOn}
 use Rattle.caf_system.specs.Body.{BodySeen, HasMark}
 use Rattle.caf_system.proofs.SendingLemmas.{none_sent, sent_then, sent_same, own_still}
+
+-- ---- answers that may be none
+
+pub of_some : {A : Type 0} (P : Type 0) (Q : A → Type 0) (o : Option A) (x : A) → o ≡ Some x → MatchOption o P Q → Q x
+of_some P Q o x e h = subst (λ a. MatchOption a P Q) e h
+
+pub of_if_some : {A : Type 0} (Q : A → Type 0) (o : Option A) (x : A) → o ≡ Some x → IfSome o Q → Q x
+of_if_some Q o x e h = subst (λ a. IfSome a Q) e h
+
+pub of_none : {A : Type 0} (P : Type 0) (Q : A → Type 0) (o : Option A) → ((x : A) → o ≡ Some x → ⊥) → MatchOption o P Q → P
+of_none P Q None never h = h
+of_none P Q (Some x) never h = absurd (never x refl)
+
+pub map_filled : {A B : Type 0} (f : A → B) (xs : List A) → xs ≢ [] → map f xs ≢ []
+map_filled f [] filled e = filled refl
+map_filled f (x ∷ xs) filled e = cc
 
 module _ {S : Type 0} (rules : Rules S) where
   abbrev m : Machine (Snapshot S)

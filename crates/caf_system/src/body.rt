@@ -1,15 +1,16 @@
 //! What a crew gives turns to.
-ghost use Rattle.std.specs.Prelude.{◌≡◌, false, IfOk};
+ghost use Rattle.std.specs.Prelude.{◌≡◌, [], false};
 ghost use Rattle.caf_types.specs.TypeTable.{seen};
 ghost use Rattle.caf_message.specs.Entries.{HasEntries};
 ghost use Rattle.caf_system.specs.Body.{HasMark};
+ghost use Rattle.caf_system.specs.Station.{AreLanesOf};
 
 use crate::station::Station;
 use caf_actor::{Actor, Behavior};
-use caf_inbox::Reader;
+use caf_inbox::{Lane, Reader};
 use caf_sched::Work;
 use caf_turns::Marked;
-use caf_types::{Memory, Places, TypeTable};
+use caf_types::{Memory, Places, Seq, TypeTable};
 use std::alloc::Global;
 use std::marker::Model;
 use std::sync::Wait;
@@ -68,6 +69,28 @@ impl<B: Behavior> Work for Body<B> {
 }
 
 impl<B: Behavior> Body<B> {
+    /// A body of an actor that took nothing yet, with the reader of its inbox, from which nothing was taken, and its own
+    /// lanes by the place that each leads to.
+    pub fn new(alloc: Global, actor: Actor<B>, reader: Reader<B>, lanes: Vec<Lane<B>>) -> Body<B>
+        requires actor { (actor.is_broken ≡ false) × (actor.journal ≡ []) }
+        requires reader { reader.taken ≡ [] }
+        requires lanes { AreLanesOf actor.snapshot.place lanes.items }
+        ensures { result ≡ record { station = record { actor = actor; reader = reader; lanes = lanes.items; held = [] }; is_broken = false } }
+    {
+        // Asking for the place tells what holds of every actor.
+        let _ = actor.place();
+        let station = Station {
+            actor,
+            reader,
+            lanes,
+            held: Seq::new(alloc),
+        };
+        Body {
+            station,
+            is_broken: false,
+        }
+    }
+
     /// The actor. Where the body is broken, nothing is said of it.
     pub fn actor(&self) -> &Actor<B>
         ensures { result.now ≡ self.now.station.actor }

@@ -1,8 +1,7 @@
 //! Actors as bodies that threads give turns to: what the threaded run is made of.
 //!
 //! Model: a [`Body`] is a `Station` (an actor, the reader of its inbox, its lanes by the place that they lead to, and
-//! what it holds back) that may be broken. [`open_bodies`] joins actors to one another: a lane from each to each, and
-//! the lane of the outside.
+//! what it holds back) that may be broken. A crew of `caf_sched` gives turns to bodies.
 //!
 //! The contract that the layer above rests on: a body that was at work and isn't broken went on by batches (`GoesOn`).
 //! They stand at its journal's end with the stamps that they are due, its snapshot is where they lead, what they posted
@@ -11,11 +10,7 @@
 #![tactic(auto)]
 
 mod body;
-mod opening;
 mod sending;
 mod station;
-#[cfg(test)]
-mod tests;
 
 pub use body::Body;
-pub use opening::{Opened, open_bodies};

@@ -12,7 +12,15 @@ use Rattle.caf_system.proofs.SendingLemmas.{none_sent, sent_then, sent_same, own
 use Rattle.caf_system.proofs.sending.send.Goals as goal
 
 pub loop-post-init : goal.loop-post-init
-loop-post-init g c = record { done = []; all = refl; own = c.requires.own; fits = c.requires.fits; sent = none_sent c.args.lanes.now.items }
+loop-post-init g c =
+    let same : c.into_iter-post-iterator.result.rest.items ≡ c.args.posts.items = search rules in
+    record {
+      done = [];
+      all = ap (map plain_post) same;
+      own = subst (λ xs. AllByRecursion (λ (q : PlainPost). AreLanesOf q.envelope.sender c.args.lanes.now.items) (map plain_post xs)) (sym same) c.requires.own;
+      fits = subst (λ xs. AllByRecursion (PostFits (entry_shape g.B.Entries.entries)) (map plain_post xs)) (sym same) c.requires.fits;
+      sent = none_sent c.args.lanes.now.items;
+    }
 
 pub push-requires-clause-own : goal.push-requires-clause-own
 push-requires-clause-own g c =

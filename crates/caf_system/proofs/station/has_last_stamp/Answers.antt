@@ -1,5 +1,6 @@
 use Rattle.std.proofs.Common.{rules, ◌≡◌, ◌<◌, [], ◌∷◌, map, ap, sym, subst}
 use Rattle.std.specs.List.{AllByRecursion}
+use Rattle.std.proofs.lemmas.List.{nil_from_length}
 use Rattle.caf_types.specs.Limits.{latest_stamp}
 use Rattle.caf_message.specs.declared.envelope.Taken.{Taken}
 use Rattle.caf_message.specs.Envelope.{plain_envelope}
@@ -16,5 +17,5 @@ loop-envelope-preserved c = λ h.
 
 pub returns : goal.returns
 returns c = λ no.
-    let none : c.loop-envelope.envelope-iterator.rest.now ≡ [] = search rules in
+    let none : c.loop-envelope.envelope-iterator.rest.now ≡ [] = nil_from_length c.loop-envelope.envelope-iterator.rest.now c.in-None.ensures.steps.0 in
     c.loop-envelope.invariant (subst (λ xs. AllByRecursion (λ (e : Taken). e.stamp < latest_stamp) (map plain_envelope xs)) (sym none) tt)
