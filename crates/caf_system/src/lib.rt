@@ -10,7 +10,11 @@
 #![tactic(auto)]
 
 mod body;
+mod crew;
 mod sending;
 mod station;
+#[cfg(test)]
+mod tests;
 
 pub use body::Body;
+pub use crew::run_bodies;
