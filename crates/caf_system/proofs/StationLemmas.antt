@@ -1,5 +1,5 @@
 -- A station, as its actor takes a batch.
-use Rattle.std.proofs.Common.{◌≡◌, ◌≢◌, ℕ, ◌<◌, List, [], ◌∷◌, ◌++◌, map, Option, Some, None, false, refl, ap, sym, ◌∙◌, subst, append_assoc}
+use Rattle.std.proofs.Common.{◌≡◌, ◌≢◌, List, [], ◌∷◌, ◌++◌, map, Option, Some, None, false, refl, ap, sym, ◌∙◌, subst, append_assoc}
 use Rattle.std.specs.Prelude.{MatchOption, IfSome}
 use Rattle.std.proofs.lemmas.List.{append-nil}
 use Rattle.std.specs.List.{AllByRecursion}
@@ -15,14 +15,13 @@ use Rattle.caf_actor.specs.Record.{Machine, machine_of, joined, after, sent, Are
 use Rattle.caf_actor.specs.Rules.{Rules}
 use Rattle.caf_actor.proofs.StampLemmas.{place_stays, posts_of_place, IsPostOf}
 use Rattle.caf_record.proofs.BatchLemmas.{joined_one, after_append, sent_append, stamped_append}
-use Rattle.caf_inbox.specs.Ends.{ReaderSeen, LaneSeen}
+use Rattle.caf_inbox.specs.Ends.{LaneSeen}
 use Rattle.caf_inbox.specs.Senders.{AreFrom}
 use Rattle.caf_driver.specs.Population.{HasPlayed}
 use Rattle.caf_driver.specs.Driver.{HasCounted}
 use Rattle.caf_driver.proofs.TakenLemmas.{all_through}
 use Rattle.caf_driver.proofs.TurnLemmas.{played_counted}
 use Rattle.caf_system.specs.Station.{StationSeen, AreLanesOf, IsStation, HasSent, GoesOn}
-use Rattle.caf_system.specs.Body.{BodySeen, HasMark}
 use Rattle.caf_system.proofs.SendingLemmas.{none_sent, sent_then, sent_same, own_still}
 
 -- ---- answers that may be none

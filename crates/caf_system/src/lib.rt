@@ -13,8 +13,6 @@ mod body;
 mod crew;
 mod sending;
 mod station;
-#[cfg(test)]
-mod tests;
 
 pub use body::Body;
 pub use crew::run_bodies;

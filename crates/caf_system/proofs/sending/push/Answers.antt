@@ -1,4 +1,4 @@
-use Rattle.std.proofs.Common.{rules, ◌≡◌, slice_get, slice_set, Some, OnOk, sym}
+use Rattle.std.proofs.Common.{rules, sym}
 use Rattle.caf_actor.specs.PlainForms.{plain_post}
 use Rattle.caf_driver.proofs.TakenLemmas.{found}
 use Rattle.caf_system.proofs.SendingLemmas.{sent_nowhere, sent_one}

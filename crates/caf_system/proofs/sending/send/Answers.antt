@@ -1,4 +1,4 @@
-use Rattle.std.proofs.Common.{rules, ◌≡◌, [], ◌∷◌, ◌++◌, length, map, ap, sym, subst, ◌∙◌, append_assoc, refl}
+use Rattle.std.proofs.Common.{rules, ◌≡◌, [], ◌∷◌, ◌++◌, length, map, ap, sym, subst, ◌∙◌, append_assoc}
 use Rattle.std.specs.List.{AllByRecursion}
 use Rattle.std.proofs.lemmas.List.{append-nil, nil_from_length}
 use Rattle.caf_message.specs.Entries.{entry_shape}
@@ -7,7 +7,7 @@ use Rattle.caf_actor.specs.PlainForms.{plain_post}
 use Rattle.caf_actor.specs.PlainPost.{PlainPost}
 use Rattle.caf_actor.specs.Record.{to_place}
 use Rattle.caf_record.proofs.BatchLemmas.{to_append}
-use Rattle.caf_system.specs.Station.{AreLanesOf, HasSent}
+use Rattle.caf_system.specs.Station.{AreLanesOf}
 use Rattle.caf_system.proofs.SendingLemmas.{none_sent, sent_then, sent_same, own_still}
 use Rattle.caf_system.proofs.sending.send.Goals as goal
 

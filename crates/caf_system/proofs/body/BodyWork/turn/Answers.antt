@@ -1,6 +1,6 @@
-use Rattle.std.proofs.Common.{◌≡◌, false, ap, sym, ◌∙◌, subst}
+use Rattle.std.proofs.Common.{ap, sym, ◌∙◌, subst}
 use Rattle.caf_system.specs.Station.{GoesOn}
-use Rattle.caf_system.specs.Body.{BodySeen, HasMark}
+use Rattle.caf_system.specs.Body.{BodySeen}
 use Rattle.caf_system.proofs.StationLemmas.{goes_on_from}
 use Rattle.caf_system.proofs.body.BodyWork.turn.Goals as goal
 

@@ -1,4 +1,4 @@
-use Rattle.std.proofs.Common.{rules, ◌≡◌, ◌≢◌, ◌++◌, [], map, Some, None, ap, sym, subst, ◌∙◌, refl}
+use Rattle.std.proofs.Common.{◌≡◌, ◌≢◌, ◌++◌, [], map, Some, ap, sym, subst, ◌∙◌, refl}
 use Rattle.std.specs.List.{AllByRecursion}
 use Rattle.caf_types.specs.Table.{shape_at}
 use Rattle.caf_types.specs.TypeTable.{seen}
@@ -13,7 +13,6 @@ use Rattle.caf_inbox.specs.Senders.{AreFrom}
 use Rattle.caf_driver.specs.Population.{HasPlayed}
 use Rattle.caf_driver.proofs.FitLemmas.{all_more_fit}
 use Rattle.caf_system.specs.Station.{StationSeen, AreLanesOf, IsStation, HasSent, GoesOn}
-use Rattle.caf_system.proofs.SendingLemmas.{sent_same}
 use Rattle.caf_system.proofs.StationLemmas.{goes_nowhere, goes_on_by, station_after, station_holding, station_idle, own_posts, of_some, of_if_some, of_none, map_filled}
 use Rattle.caf_system.proofs.station.Station.turn.Goals as goal
 
