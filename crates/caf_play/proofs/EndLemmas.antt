@@ -12,6 +12,7 @@ use Rattle.caf_play.specs.Ending.{machine, waiting_at, IsEarlyEnd, HasDriven, Ha
 use Rattle.caf_play.specs.declared.played.PlayEnd.{PlayEnd}
 use Rattle.caf_play.specs.declared.played.PlayEnd.TheVariants as play
 use Rattle.caf_play.proofs.DriveLemmas.{waiting_same, spent_shown, shown_spent}
+use Rattle.caf_play.proofs.UnstoppedLemmas.{none_cut}
 
 -- ---- how many ticks were played
 
@@ -37,6 +38,7 @@ module _ (start : ℕ → Snapshot Kind) (all budget sent : ℕ) (some : 0 < sen
           ticks = ticks_in d;
           few = omega (arith, ticks, at, few);
           legal = h.legal.legal;
+          unstopped = none_cut start d h.driven h.legal h.unstopped more;
           waits = (
             h.so.0.0,
             h.so.0.1,

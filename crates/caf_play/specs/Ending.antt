@@ -1,5 +1,5 @@
 -- How a play ends, told by its record.
-use Rattle.std.specs.Prelude.{◌≡◌, ◌≢◌, ℕ, ◌+◌, ◌-◌, ◌<◌, ◌≤◌, ◌==◌, ◌&&◌, ◌⊎◌, nat_lt, Bool, true, false, if◌then◌else◌, List, [], ◌∷◌, ◌++◌, length, count_by}
+use Rattle.std.specs.Prelude.{◌≡◌, ◌≢◌, ℕ, ◌+◌, ◌-◌, ◌<◌, ◌≤◌, ◌==◌, ◌&&◌, ◌⊎◌, nat_lt, Bool, true, false, if◌then◌else◌, List, [], ◌∷◌, ◌++◌, length, count_by, None}
 use Rattle.std.specs.List.{list_any}
 use Rattle.caf_types.specs.Limits.{latest_stamp}
 use Rattle.caf_message.specs.declared.envelope.Taken.{Taken}
@@ -58,6 +58,7 @@ pub record IsOverBudget (all budget : ℕ) (k : Kept (Snapshot Kind)) : Type 0 w
   pub ticks : ℕ
   pub few : ticks ≤ all
   pub legal : IsLegal machine ticks k
+  pub unstopped : k.cut ≡ None
   pub waits : (a : ℕ) × (b : ℕ) × (waiting_at ticks (ticks + 1) k a b ≢ [])
   pub spent : budget ≤ handled machine k
 

@@ -61,9 +61,13 @@ sent_one lanes p l k at is = record { count = length-set lanes p.to k; lane = λ
     go b x there true q =
         let here : p.to ≡ b = same_place p.to b q in
         let same : x ≡ l = same_some x l (sym there ∙ ap (slice_get lanes) (sym here) ∙ at) in
-        let written : slice_get (slice_set lanes p.to k) b ≡ Some k = ap (slice_get (slice_set lanes p.to k)) (sym here) ∙ set_at lanes p.to l k at in
-        (k, written, ap (λ (y : LaneSeen). y.inbox) is ∙ ap (λ (y : LaneSeen). y.inbox) (sym same), ap (λ (y : LaneSeen). y.sender) is ∙ ap (λ (y : LaneSeen). y.sender) (sym same),
-        ap (λ (y : LaneSeen). y.pushed) is ∙ ap (λ (y : LaneSeen). y.pushed ++ p.envelope ∷ []) (sym same) ∙ ap (λ es. x.pushed ++ es) (sym (goes_there p b q)))
+        let written : slice_get (slice_set lanes p.to k) b ≡ Some k = ap (slice_get (slice_set lanes p.to k)) (sym here) ∙ set_at lanes p.to l k at in (
+          k,
+          written,
+          ap (λ (y : LaneSeen). y.inbox) is ∙ ap (λ (y : LaneSeen). y.inbox) (sym same),
+          ap (λ (y : LaneSeen). y.sender) is ∙ ap (λ (y : LaneSeen). y.sender) (sym same),
+          ap (λ (y : LaneSeen). y.pushed) is ∙ ap (λ (y : LaneSeen). y.pushed ++ p.envelope ∷ []) (sym same) ∙ ap (λ es. x.pushed ++ es) (sym (goes_there p b q)),
+        )
     go b x there false q = stays lanes (slice_set lanes p.to k) p b x (set_beside lanes p.to b k (differ p.to b q) ∙ there) q
 
 -- ---- several posts

@@ -34,11 +34,7 @@ pub(crate) fn send<B: Behavior, R: Wait>(
 }
 
 /// The post is pushed on the lane to its place, if it has one.
-fn push<B: Behavior, R: Wait>(
-    rt: &R,
-    lanes: &mut Vec<Lane<B>>,
-    post: Post,
-) -> Result<(), Memory>
+fn push<B: Behavior, R: Wait>(rt: &R, lanes: &mut Vec<Lane<B>>, post: Post) -> Result<(), Memory>
     requires own { AreLanesOf (plain_post post).envelope.sender lanes.old.items }
     requires fits { PostFits (entry_shape B.entries) (plain_post post) }
     ensures { OnOk result (HasSent lanes.old.items (λ b. to_place b (plain_post post ∷ [])) lanes.new.items) }
