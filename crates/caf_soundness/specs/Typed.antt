@@ -91,13 +91,17 @@ AnswersAsDeclared taken p request response = IsResponseTo p request response →
 
 -- ---- records
 
+-- what a place sent to another
+abbrev pub sent_to : Kept (Snapshot Kind) → ℕ → ℕ → List Taken
+sent_to k a b = sent_by (machine_of kind_rules) k a b
+
 -- what each place took, also what it keeps for later or has quit before; what each place sent, also what is not yet
 -- taken; what was sent to a place in answer to its requests, whoever they went to, also where it came too late; and how
 -- the requests of each place ended
 pub record IsWellTyped (setups : List Setup) (ticks : ℕ) (k : Kept (Snapshot Kind)) (ts : List Turn) : Type 0 where
   pub taken : (p : ℕ) → AllByRecursion (IsTyped (face setups p)) (joined (k.journal p))
-  pub sent : (a p : ℕ) → AllByRecursion (IsTyped (face setups p)) (sent_by (machine_of kind_rules) k a p)
-  pub answered : (a q b p : ℕ) → AllByRecursion (λ request. AllByRecursion (AnswersAsDeclared (face setups q) p request) (sent_by (machine_of kind_rules) k b p)) (sent_by (machine_of kind_rules) k a q)
+  pub sent : (a p : ℕ) → AllByRecursion (IsTyped (face setups p)) (sent_to k a p)
+  pub answered : (a q b p : ℕ) → AllByRecursion (λ request. AllByRecursion (AnswersAsDeclared (face setups q) p request) (sent_to k b p)) (sent_to k a q)
   pub resolved : (p : ℕ) → AllByRecursion EndsTyped (run_resolves kind_rules ticks p (opening_state k.places k.start) (steps_of ts))
 
 -- ---- setups
