@@ -7,7 +7,7 @@ use Rattle.caf_command.specs.declared.run_words.RunWords.{RunWords}
 use Rattle.caf_corpus.specs.Corpus.{IsWithin}
 use Rattle.caf_actor.specs.declared.snapshot.Snapshot.{Snapshot}
 use Rattle.caf_actor.specs.Merge.{IsMerge}
-use Rattle.caf_actor.specs.Record.{Kept, ends, IsComplete}
+use Rattle.caf_actor.specs.Record.{Kept, ends, IsLegal, IsComplete}
 use Rattle.caf_actor.specs.Run.{Turn}
 use Rattle.caf_driver.specs.Opening.{StartsAt}
 use Rattle.caf_headline.specs.Fresh.{IsOpening}
@@ -20,10 +20,11 @@ use Rattle.caf_kinds.specs.declared.script.Step.{Step}
 use Rattle.caf_kinds.specs.declared.script.Step.TheVariants as step
 use Rattle.caf_opening.specs.Opening.{CanOpen, SparesConductor, opening_of}
 use Rattle.caf_pipeline.specs.Contents.{AreIndexable, OpensAs}
+use Rattle.caf_pipeline.specs.Numbers.{EnoughIsNeverSpent}
 use Rattle.caf_pipeline.specs.Text.{AreEnds, CompleteTextHasIndex}
 use Rattle.caf_pipeline.specs.Undisturbed.{Pipeline, IsTold, IsRequested, IsPlainScript, IsUndisturbed}
 use Rattle.caf_pipeline.proofs.ListLemmas.{got_at}
-use Rattle.caf_play.specs.Ending.{machine, is_tick, ticks_of, IsDone, EndsAs}
+use Rattle.caf_play.specs.Ending.{machine, is_tick, ticks_of, IsOverBudget, EndsAs}
 use Rattle.caf_play.specs.declared.played.Played.{Played}
 use Rattle.caf_play.specs.declared.played.PlayEnd.TheVariants as play
 use Rattle.caf_play.proofs.PlayLemmas.{some_start}
@@ -105,9 +106,10 @@ module _ (scenario : Scenario) (files : List (List ℕ)) (budget : ℕ) (played 
 -- ---- all of it
 
 module _ (valid : ValidScenarioOpens) (built_in : BuiltinOpens) (spares : ScenariosSpareConductor) (valid_typed : ValidScenarioIsWellTyped) (built_in_typed : BuiltinIsWellTyped)
-    (promised : CompleteRunsKeepTheirPromises) (texts : CompleteTextHasIndex) (merged : LegalIsMerged machine) where
+    (promised : CompleteRunsKeepTheirPromises) (texts : CompleteTextHasIndex) (never : EnoughIsNeverSpent) (merged : LegalIsMerged machine) where
   pub keeps_word : RunsKeepTheirWord
-  keeps_word told words scenario files budget played chosen within bytes few is =
+  keeps_word told words scenario files played chosen within bytes few is =
+      let budget = words.budget in
       let opening : IsOpening scenario.setups scenario.script files = record { opens = chosen_opens valid built_in told words.scenario scenario files chosen within; spared = spared spares told words.scenario scenario chosen; known = is.known } in
       let indexable = within_is_indexable files within bytes few in
       record {
@@ -132,4 +134,17 @@ module _ (valid : ValidScenarioOpens) (built_in : BuiltinOpens) (spares : Scenar
               merge = merged (ticks_of scenario.script) start played.kept whole.legal;
             })
             (are_ends scenario files budget played is start some.1);
+        in_budget = λ undisturbed room over.
+            let some = some_start scenario.setups scenario.script (opening_of scenario.setups scenario.script files) in
+            let start = some.0 in
+            let spent : IsOverBudget (ticks_of scenario.script) words.budget (record_of start played.kept) =
+            subst (EndsAs (ticks_of scenario.script) words.budget (record_of start played.kept)) over (is.plays start some.1).ended in
+            let none = no_ticks undisturbed.pipeline scenario.script undisturbed.plays in
+            let few_ticks = spent.few in
+            let silent : spent.ticks ≡ 0 = omega (arith, none, few_ticks) in
+            let less = never scenario.setups scenario.script files words.budget (record_of start played.kept) (turns_of played.kept) undisturbed indexable
+            (opens scenario files words.budget played is start some.1) (subst (λ (n : ℕ). IsLegal machine n (record_of start played.kept)) silent spent.legal)
+            (merged spent.ticks start played.kept spent.legal) spent.unstopped room in
+            let all = spent.spent in
+            absurd (omega (arith, less, all));
       }

@@ -1,5 +1,5 @@
 -- What a run that was played keeps.
-use Rattle.std.specs.Prelude.{◌≡◌, ℕ, ◌-◌, ◌<◌, ◌^◌, List, ◌++◌, length, Option, Some, None}
+use Rattle.std.specs.Prelude.{◌≡◌, ◌≢◌, ℕ, ◌-◌, ◌<◌, ◌≤◌, ◌^◌, List, ◌++◌, length, Option, Some, None}
 use Rattle.caf_io.specs.Files.{Content}
 use Rattle.caf_command.specs.declared.run_words.RunWords.{RunWords}
 use Rattle.caf_corpus.specs.Corpus.{IsWithin}
@@ -16,6 +16,7 @@ use Rattle.caf_kinds.specs.FileChunks.{AreByteLists}
 use Rattle.caf_kinds.specs.declared.kind.Kind.{Kind}
 use Rattle.caf_opening.specs.Opening.{opening_of}
 use Rattle.caf_pipeline.specs.Contents.{AreIndexable}
+use Rattle.caf_pipeline.specs.Numbers.{enough}
 use Rattle.caf_pipeline.specs.Text.{totals_lines}
 use Rattle.caf_pipeline.specs.Undisturbed.{IsUndisturbed}
 use Rattle.caf_play.specs.Ending.{machine, ticks_of}
@@ -56,9 +57,11 @@ pub record KeepsWord (words : RunWords) (scenario : Scenario) (files : List (Lis
   -- for each request for totals
   pub index_text : IsUndisturbed scenario.setups scenario.script → played.end ≡ play.Done
       → run_text words scenario played ≡ (index_text_of words.files (plain_index_of files) ++ totals_lines core files 2 (length scenario.script - 2)) ++ trace_part words.is_traced played.kept
+  -- and its budget isn't spent, where it is 8 for each chunk of the files, 16 for each place and 2 for each step
+  pub in_budget : IsUndisturbed scenario.setups scenario.script → enough scenario.setups scenario.script files ≤ words.budget → played.end ≢ play.Budget
 
 -- so it is with each play of a chosen scenario over files within the limits
 abbrev pub RunsKeepTheirWord : Type 0
-RunsKeepTheirWord = (told : Option Content) (words : RunWords) (scenario : Scenario) (files : List (List ℕ)) (budget : ℕ) (played : Played)
+RunsKeepTheirWord = (told : Option Content) (words : RunWords) (scenario : Scenario) (files : List (List ℕ)) (played : Played)
     → IsChosen told words.scenario scenario → IsWithin files → AreByteLists files → length files < 2 ^ 64
-    → IsPlay scenario files budget played → KeepsWord words scenario files played
+    → IsPlay scenario files words.budget played → KeepsWord words scenario files played

@@ -6,7 +6,7 @@ ghost use Rattle.caf_cli.specs.Promises.{RunsKeepTheirWord};
 
 use caf_headline::laws::complete_runs_keep_their_promises;
 use caf_kinds::Kind;
-use caf_pipeline::laws::complete_text_has_index;
+use caf_pipeline::laws::{complete_text_has_index, enough_is_never_spent};
 use caf_record::laws::legal_is_merged;
 use caf_soundness::laws::{builtin_is_well_typed, valid_scenario_is_well_typed};
 use caf_types::Octets;
@@ -23,6 +23,7 @@ pub(crate) fn runs_keep_their_word()
     builtin_is_well_typed();
     complete_runs_keep_their_promises();
     complete_text_has_index();
+    enough_is_never_spent();
     legal_is_merged::<Kind>();
 }
 

@@ -18,7 +18,7 @@ returns-clause-run g c =
       corpus = c.in_ok-corpus.corpus;
       reads = subst (λ (told : Option Content). IsCorpus told c.args.words.now.files c.in_ok-corpus.corpus) c.chosen.ensures.same_content corpus;
       play = c.in_ok-played.ensures;
-      word = c.runs_keep_their_word.ensures (g.F.Files.told c.args.files.now) c.args.words.now c.in_ok-scenario.scenario c.in_ok-corpus.corpus c.args.words.now.budget c.in_ok-played.played
+      word = c.runs_keep_their_word.ensures (g.F.Files.told c.args.files.now) c.args.words.now c.in_ok-scenario.scenario c.in_ok-corpus.corpus c.in_ok-played.played
           c.in_ok-scenario.ensures.chosen corpus.within (subst AreByteLists c.as_slice.ensures c.know_files.ensures.bytes) (subst (λ (files : List (List ℕ)). length files < 2 ^ 64) c.as_slice.ensures c.know_files.ensures.few)
           c.in_ok-played.ensures;
     }
